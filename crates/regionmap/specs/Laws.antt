@@ -9,7 +9,7 @@ use Rattle.regionmap.specs.Map.{Run, Map, Span, runOf, runEnd, runLeft, 
 -- what the opening's rules say of one map
 pub record Lawful (m : Map) : Type 0 where
   pub rising : ascends 0 (m .more) (m .capacity) ≡ true
-  pub within : m .data ≤ m .capacity
+  pub within : m .dataLength ≤ m .capacity
 
 -- p lies in the run s
 pub record Holds (s : Span) (p : ℕ) : Type 0 where
@@ -27,7 +27,7 @@ pub record OnePiece (m : Map) (p left : ℕ) : Type 0 where
   pub some : 0 < pieceSize m p left
   pub most : pieceSize m p left ≤ left
   pub uncrossed : p + pieceSize m p left ≤ runOf m p .end
-  pub inData : p + pieceSize m p left ≤ m .data
+  pub inData : p + pieceSize m p left ≤ m .dataLength
   pub consecutive : (j : ℕ) → j < pieceSize m p left → place m (p + j) ≡ place m p + j
 
 -- the pieces of a list follow one another from p to e, and each is the map's at its position, of the bytes left there
@@ -37,7 +37,7 @@ Chain m p (x ∷ xs) e = (x .position ≡ p) × (x .count ≡ pieceSize m p (e -
 
 pub record MapLaws : Type 0 where
   pub one-run : (m : Map) → Lawful m → (p : ℕ) → p < m .capacity → OneRun m p
-  pub one-piece : (m : Map) → Lawful m → (p left : ℕ) → 0 < left → p < m .data → OnePiece m p left
+  pub one-piece : (m : Map) → Lawful m → (p left : ℕ) → 0 < left → p < m .dataLength → OnePiece m p left
   -- "the pieces of a range, in order, cover it exactly once and are finitely many"
-  pub covered : (m : Map) → Lawful m → (p n : ℕ) → p + n ≤ m .data → Chain m p (pieces m p n) (p + n)
+  pub covered : (m : Map) → Lawful m → (p n : ℕ) → p + n ≤ m .dataLength → Chain m p (pieces m p n) (p + n)
   pub finite : (m : Map) (p n : ℕ) → length (pieces m p n) ≤ n

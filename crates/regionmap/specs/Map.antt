@@ -18,7 +18,7 @@ pub record Map : Type 0 where
   pub first : ℕ
   pub more : List Run
   pub capacity : ℕ
-  pub data : ℕ
+  pub dataLength : ℕ
 
 -- a run with the position that it ends before
 pub record Span : Type 0 where
@@ -45,7 +45,7 @@ runOf m p = spanFrom (firstRun m) (m .more) (m .capacity) p
 
 -- where the run of a position ends: "at the next start or the capacity, cut to the data length"
 unfoldable pub runEnd : Map → ℕ → ℕ
-runEnd m p = min (runOf m p .end) (m .data)
+runEnd m p = min (runOf m p .end) (m .dataLength)
 
 -- how far a piece may run from a position: "the run's rest"
 unfoldable pub runLeft : Map → ℕ → ℕ

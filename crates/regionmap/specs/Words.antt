@@ -17,7 +17,7 @@ runsIn (suc n) ws = record { start = getD ws 0 0; offset = getD ws 1 0 } ∷ run
 
 -- the map in words
 unfoldable pub mapIn : List ℕ → Map
-mapIn ws = record { first = getD ws 0 0; more = runsIn (getD ws 3 0) (drop 4 ws); capacity = getD ws 1 0; data = getD ws 2 0 }
+mapIn ws = record { first = getD ws 0 0; more = runsIn (getD ws 3 0) (drop 4 ws); capacity = getD ws 1 0; dataLength = getD ws 2 0 }
 
 -- the words hold all of the map's runs, and the starts ascend: what the opening makes sure of
 pub record HoldsMap (ws : List ℕ) : Type 0 where

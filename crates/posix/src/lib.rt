@@ -1,0 +1,1 @@
+// Specs only for now.
