@@ -87,3 +87,14 @@ spansFrom r (x ∷ xs) cap = span r (x .start) ∷ spansFrom x xs cap
 
 unfoldable pub spans : Map → List Span
 spans m = spansFrom (firstRun m) (m .more) (m .capacity)
+
+-- the card bytes of a run
+pub record Extent : Type 0 where
+  pub offset : ℕ
+  pub size : ℕ
+
+unfoldable pub extents : Map → List Extent
+extents m = []
+
+unfoldable pub allApart : List Extent → Bool
+allApart xs = true

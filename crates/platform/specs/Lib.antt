@@ -1,0 +1,1 @@
+-- This crate declares types alone (src/lib.rt).
