@@ -1,1 +1,38 @@
-// Specs only for now.
+// The block (store-io's layout.rs): "Block is a power of two, 512 to 65,536", and what counts in blocks is a multiple of it. Every
+// function is total, on the block 0 too.
+ghost use mathlib.Core.Path.{_≡_};
+ghost use Prim.Native.Nat;
+ghost use Rattle.layout.specs.Block.{isBlock, onBlock};
+
+// The smallest block (the Rust has it as MIN_LOG2_BLOCK).
+pub const MIN_BLOCK: u64 = 512;
+
+// The largest block (MAX_LOG2_BLOCK).
+pub const MAX_BLOCK: u64 = 65536;
+
+// Whether n is a power of two from the smallest block to the largest (the sizes that Layout::block can give).
+pub fn is_block(n: u64) -> bool
+    ensures { λ r. ⌜ r ≡ isBlock n ⌝ }
+{
+    match n {
+        MIN_BLOCK | 1024 | 2048 | 4096 | 8192 | 16384 | 32768 | MAX_BLOCK => true,
+        _ => false,
+    }
+}
+
+// Whether x is a multiple of the block (u64::is_multiple_of); of the block 0 only 0 is.
+pub fn on_block(block: u64, x: u64) -> bool
+    ensures { λ r. ⌜ r ≡ onBlock block x ⌝ }
+{
+    if block == 0 {
+        return x == 0;
+    }
+    x % block == 0
+}
+
+// The smaller of two numbers (u64::min).
+pub fn min(a: u64, b: u64) -> u64
+    ensures { λ r. ⌜ r ≡ Prim.Native.Nat.min a b ⌝ }
+{
+    if a < b { a } else { b }
+}
