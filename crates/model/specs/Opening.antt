@@ -18,35 +18,35 @@ pub record Plan : Type 0 where
   pub generation : ℕ
   pub map : Map
 
-unfoldable pub between : ℕ → ℕ → ℕ → Bool
+abbrev pub between : ℕ → ℕ → ℕ → Bool
 between lo hi x = leb lo x && leb x hi
 
 -- "Depth is 1 to 4,096"
-unfoldable pub depthRule : Opening → Bool
+abbrev pub depthRule : Opening → Bool
 depthRule o = between 1 4096 (o .depth)
 
 -- "Block is a power of two, 512 to 65,536."
-unfoldable pub blockRule : Opening → Bool
+abbrev pub blockRule : Opening → Bool
 blockRule o = isBlock (o .block)
 
 -- "Pool: 1 to 4,096 buffers"
-unfoldable pub buffersRule : Opening → Bool
+abbrev pub buffersRule : Opening → Bool
 buffersRule o = between 1 4096 (o .buffers)
 
 -- "capacity a positive multiple of the block, at most 65,536"
-unfoldable pub capacityRule : Opening → Bool
+abbrev pub capacityRule : Opening → Bool
 capacityRule o = between 1 65536 (o .capacity) && onBlock (o .block) (o .capacity)
 
 -- "the pool holds exactly count × capacity bytes"
-unfoldable pub poolRule : Opening → Lengths → Bool
+abbrev pub poolRule : Opening → Lengths → Bool
 poolRule o l = eqb (l .pool) (o .buffers * o .capacity)
 
 -- "Lifetime, added by design: 1 to 2^62 submissions."
-unfoldable pub lifetimeRule : Opening → Bool
+abbrev pub lifetimeRule : Opening → Bool
 lifetimeRule o = between 1 (2 ^ 62) (o .lifetime)
 
 -- "There are 1 to 8 regions"
-unfoldable pub regionsRule : Opening → Bool
+abbrev pub regionsRule : Opening → Bool
 regionsRule o = between 1 8 (o .regions)
 
 -- "with distinct ids"
@@ -62,15 +62,15 @@ unfoldable pub idsRule : List Plan → Bool
 idsRule ps = distinct (map (λ p. p .id) ps)
 
 -- "A region has a generation (32 bits)"
-unfoldable pub generationRule : Plan → Bool
+abbrev pub generationRule : Plan → Bool
 generationRule p = ltb (p .generation) (2 ^ 32)
 
 -- "up to 32 further runs"
-unfoldable pub runsRule : Plan → Bool
+abbrev pub runsRule : Plan → Bool
 runsRule p = leb (length (p .map .more)) 32
 
 -- "a positive capacity and a data length of at most the capacity"
-unfoldable pub sizesRule : Plan → Bool
+abbrev pub sizesRule : Plan → Bool
 sizesRule p = ltb 0 (p .map .capacity) && leb (p .map .dataLength) (p .map .capacity)
 
 -- "Starts strictly ascend, above 0 and below the capacity."
@@ -110,19 +110,19 @@ unfoldable pub withinRule : Opening → List Plan → Bool
 withinRule o ps = withinCard (o .card) (allExtents ps)
 
 -- the card's size is "at most 2^63 − 1"
-unfoldable pub cardRule : Opening → Bool
+abbrev pub cardRule : Opening → Bool
 cardRule o = leb (o .card) (2 ^ 63 - 1)
 
 -- How long the row memory has to be is ours to choose (README): a record for each row; the settings, the regions' marks and the regions in the
 -- store's words; a word of the free stack for each row; one word and sixteen for each row of the completions; a word for each buffer's owner.
-unfoldable pub storeWords : ℕ → ℕ
+abbrev pub storeWords : ℕ → ℕ
 storeWords n = 48 + 70 * n
 
-unfoldable pub readyWords : ℕ → ℕ
+abbrev pub readyWords : ℕ → ℕ
 readyWords d = 1 + 16 * d
 
 -- "and the row memory long enough"
-unfoldable pub memoryRule : Opening → Lengths → Bool
+abbrev pub memoryRule : Opening → Lengths → Bool
 memoryRule o l =
     leb (o .depth) (l .rows) && (leb (storeWords (o .regions)) (l .store) && (leb (o .depth) (l .free) && (leb (readyWords (o .depth)) (l .ready) && leb (o .buffers) (l .owners))))
 

@@ -18,18 +18,22 @@ pub(crate) fn from_to(lo: u64, hi: u64, x: u64) -> bool
     both(lo <= x, x <= hi)
 }
 
-// The rules on the opening's own numbers.
-pub(crate) fn numbers(o: Opening) -> bool
-    ensures { λ r. ⌜ r ≡ allTrue (numberRules o) ⌝ }
-{
-    let counts = both(from_to(1, 4096, o.depth), layout::is_block(o.block));
-    let pool = both(from_to(1, 4096, o.buffers), capacity_rule(o));
-    let life = both(from_to(1, 0x4000_0000_0000_0000, o.lifetime), from_to(1, 8, o.regions));
-    both(counts, both(pool, both(life, o.card <= 0x7fff_ffff_ffff_ffff)))
-}
-
+// "capacity a positive multiple of the block, at most 65,536"
 fn capacity_rule(o: Opening) -> bool
     ensures { λ r. ⌜ r ≡ capacityRule o ⌝ }
 {
     both(from_to(1, 65536, o.capacity), layout::on_block(o.block, o.capacity))
+}
+
+// The rules on the opening's own numbers.
+pub(crate) fn numbers(o: Opening) -> bool
+    ensures { λ r. ⌜ r ≡ allTrue (numberRules o) ⌝ }
+{
+    let card = both(o.card <= 0x7fff_ffff_ffff_ffff, true);
+    let regions = both(from_to(1, 8, o.regions), card);
+    let lifetime = both(from_to(1, 0x4000_0000_0000_0000, o.lifetime), regions);
+    let capacity = both(capacity_rule(o), lifetime);
+    let buffers = both(from_to(1, 4096, o.buffers), capacity);
+    let block = both(layout::is_block(o.block), buffers);
+    both(from_to(1, 4096, o.depth), block)
 }
