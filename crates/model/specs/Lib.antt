@@ -1,3 +1,4 @@
 pub mod State
 pub mod Opening
 pub mod Memory
+pub mod Meaning

@@ -2,6 +2,9 @@
 ghost use mathlib.Core.Path.{_≡_};
 ghost use mathlib.Core.Bool.{_&&_, Bool, true};
 ghost use Rattle.model.specs.Opening.{between, allTrue, numberRules, lengthRules, depthRule, blockRule, buffersRule, capacityRule, lifetimeRule, regionsRule, cardRule};
+ghost use Prim.Native.Nat.{_*_, _≤_};
+ghost use lib.Dec.{leb};
+use model::Lengths;
 use model::Opening;
 
 // Both hold.
@@ -36,4 +39,19 @@ pub(crate) fn numbers(o: Opening) -> bool
     let buffers = both(from_to(1, 4096, o.buffers), capacity);
     let block = both(layout::is_block(o.block), buffers);
     both(from_to(1, 4096, o.depth), block)
+}
+
+// "the pool holds exactly count × capacity bytes", and "the row memory long enough".
+pub(crate) fn lengths(o: Opening, l: Lengths, plan: u64) -> bool
+    requires { ⌜ (o .buffers ≤ 4096) × ((o .capacity ≤ 65536) × ((o .depth ≤ 4096) × (o .regions ≤ 8))) ⌝ }
+    ensures { λ r. ⌜ r ≡ allTrue (lengthRules o (leb (70 * o .regions) plan) l) ⌝ }
+{
+    let bytes = o.buffers * o.capacity;
+    let ready = 1 + 16 * o.depth;
+    let listed = 70 * o.regions;
+    let store = 48 + listed;
+    let owned = both(ready <= l.ready, o.buffers <= l.owners);
+    let stacks = both(store <= l.store, both(o.depth <= l.free, owned));
+    let rows = both(o.depth <= l.rows, stacks);
+    both(l.pool == bytes, both(rows, both(listed <= plan, true)))
 }

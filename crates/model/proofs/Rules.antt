@@ -1,0 +1,52 @@
+-- The rules on numbers, once admitted, as propositions: each test is taken out of the conjunction and read as an order.
+use mathlib.Core.Path.{_≡_}
+use mathlib.Core.Bool.{Bool, true, _&&_}
+use mathlib.Core.List.{List, [], _∷_}
+use Prim.Native.Nat.{ℕ, _≤_}
+use borrow.Author.Tests.{leb-true}
+use lib.Dec.{leb}
+use Rattle.layout.specs.Block.{onBlock}
+use Rattle.model.specs.declared.Opening.{Opening}
+use Rattle.model.specs.Opening.{between, allTrue, numberRules}
+use Rattle.model.specs.Meaning.{Numbers}
+use Rattle.model.proofs.Bools.{and-left, and-right}
+
+-- the first test, and the rest
+pub head-true : (x : Bool) (xs : List Bool) → allTrue (x ∷ xs) ≡ true → x ≡ true
+unfolding allTrue
+head-true x xs h = and-left x (allTrue xs) h
+
+pub tail-true : (x : Bool) (xs : List Bool) → allTrue (x ∷ xs) ≡ true → allTrue xs ≡ true
+unfolding allTrue
+tail-true x xs h = and-right x (allTrue xs) h
+
+at-least : (lo hi x : ℕ) → between lo hi x ≡ true → lo ≤ x
+at-least lo hi x h = leb-true lo x (and-left (leb lo x) (leb x hi) h)
+
+at-most : (lo hi x : ℕ) → between lo hi x ≡ true → x ≤ hi
+at-most lo hi x h = leb-true x hi (and-right (leb lo x) (leb x hi) h)
+
+pub numbers-mean : (o : Opening) → allTrue (numberRules o) ≡ true → Numbers o
+unfolding numberRules
+numbers-mean o h₁ =
+    let h₂ = tail-true _ _ h₁ in
+    let h₃ = tail-true _ _ h₂ in
+    let h₄ = tail-true _ _ h₃ in
+    let h₅ = tail-true _ _ h₄ in
+    let h₆ = tail-true _ _ h₅ in
+    let h₇ = tail-true _ _ h₆ in
+    record {
+      some-depth = at-least _ _ _ (head-true _ _ h₁);
+      most-depth = at-most _ _ _ (head-true _ _ h₁);
+      block = head-true _ _ h₂;
+      some-buffers = at-least _ _ _ (head-true _ _ h₃);
+      most-buffers = at-most _ _ _ (head-true _ _ h₃);
+      some-capacity = at-least _ _ _ (and-left (between 1 65536 (o .capacity)) (onBlock (o .block) (o .capacity)) (head-true _ _ h₄));
+      most-capacity = at-most _ _ _ (and-left (between 1 65536 (o .capacity)) (onBlock (o .block) (o .capacity)) (head-true _ _ h₄));
+      on-block = and-right (between 1 65536 (o .capacity)) (onBlock (o .block) (o .capacity)) (head-true _ _ h₄);
+      some-lifetime = at-least _ _ _ (head-true _ _ h₅);
+      most-lifetime = at-most _ _ _ (head-true _ _ h₅);
+      some-regions = at-least _ _ _ (head-true _ _ h₆);
+      most-regions = at-most _ _ _ (head-true _ _ h₆);
+      card = leb-true _ _ (head-true _ _ h₇)
+    }
