@@ -1,3 +1,2 @@
 -- Proofs about the definitions of specs/.
-pub mod Bools
 pub mod Rules

@@ -6,10 +6,10 @@ use Prim.Native.Nat.{ℕ, _≤_}
 use borrow.Author.Tests.{leb-true}
 use lib.Dec.{leb}
 use Rattle.layout.specs.Block.{onBlock}
+use Rattle.layout.proofs.Tests.{and-left, and-right}
 use Rattle.model.specs.declared.Opening.{Opening}
 use Rattle.model.specs.Opening.{between, allTrue, numberRules}
 use Rattle.model.specs.Meaning.{Numbers}
-use Rattle.model.proofs.Bools.{and-left, and-right}
 
 -- the first test, and the rest
 pub head-true : (x : Bool) (xs : List Bool) → allTrue (x ∷ xs) ≡ true → x ≡ true

@@ -5,7 +5,7 @@ use Prim.Native.Nat.{ℕ, zero, suc, _+_, _-_, _*_, _^_}
 use lib.ListN.{length, replicate}
 use lib.Dec.{leb, ltb, eqb}
 use Rattle.layout.specs.Block.{isBlock, onBlock}
-use Rattle.regionmap.specs.Map.{Run, Map, ascends, Extent, extents, allApart}
+use Rattle.regionmap.specs.Map.{Run, Map, ascends, Extent, extents, allApart, allWithin}
 use Rattle.domain.specs.declared.Poisoned.the-variants.{Never}
 use Rattle.model.specs.declared.Opening.{Opening}
 use Rattle.model.specs.declared.Lengths.{Lengths}
@@ -82,11 +82,11 @@ unfoldable pub runsOnBlock : ℕ → List Run → Bool
 runsOnBlock b [] = true
 runsOnBlock b (r ∷ rs) = onBlock b (r .start) && (onBlock b (r .offset) && runsOnBlock b rs)
 
-unfoldable pub blocksRule : ℕ → Plan → Bool
-blocksRule b p = onBlock b (p .map .first) && (onBlock b (p .map .capacity) && (onBlock b (p .map .dataLength) && runsOnBlock b (p .map .more)))
+unfoldable pub blocksRule : ℕ → Map → Bool
+blocksRule b m = onBlock b (m .first) && (onBlock b (m .capacity) && (onBlock b (m .dataLength) && runsOnBlock b (m .more)))
 
 unfoldable pub regionRule : ℕ → Plan → Bool
-regionRule b p = generationRule p && (runsRule p && (sizesRule p && (startsRule p && blocksRule b p)))
+regionRule b p = generationRule p && (runsRule p && (sizesRule p && (startsRule p && blocksRule b (p .map))))
 
 unfoldable pub eachRegion : ℕ → List Plan → Bool
 eachRegion b [] = true
@@ -102,12 +102,8 @@ unfoldable pub apartRule : List Plan → Bool
 apartRule ps = allApart (allExtents ps)
 
 -- "and all lie within the card's size"
-unfoldable pub withinCard : ℕ → List Extent → Bool
-withinCard c [] = true
-withinCard c (e ∷ es) = leb (e .offset + e .size) c && withinCard c es
-
 unfoldable pub withinRule : Opening → List Plan → Bool
-withinRule o ps = withinCard (o .card) (allExtents ps)
+withinRule o ps = allWithin (o .card) (allExtents ps)
 
 -- the card's size is "at most 2^63 − 1"
 abbrev pub cardRule : Opening → Bool

@@ -1,0 +1,3 @@
+-- Proofs shared by the functions of this crate.
+pub mod Walk
+pub mod Steps

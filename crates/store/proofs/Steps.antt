@@ -1,0 +1,48 @@
+-- What lies in words, taken apart at its j-th: the first of those that are left, and the others. By the definitions' clauses at n − j.
+use mathlib.Core.Path.{_≡_, refl, sym, ap, ap₂, _∙_}
+use mathlib.Core.List.{List, [], _∷_}
+use Prim.Native.Nat.{ℕ, zero, suc, _+_, _-_, _*_, _≤_, _<_}
+use native.Mathlib.Omega.{arith}
+use lib.ListN.{getD, drop, take}
+use lib.Seq.{getD-drop, drop-drop}
+use Rattle.regionmap.specs.Map.{Run}
+use Rattle.regionmap.specs.Words.{runsIn}
+
+-- the j-th further run of a map in words
+abbrev pub runWords : List ℕ → ℕ → Run
+runWords ws j = record { start = getD ws (4 + 2 * j) 0; offset = getD ws (5 + 2 * j) 0 }
+
+-- the further runs of a map of n in words, from the j-th on
+abbrev pub runsFrom : List ℕ → ℕ → ℕ → List Run
+runsFrom ws n j = runsIn (n - j) (drop (4 + 2 * j) ws)
+
+-- n − j is one more than n − (j + 1), and nothing where j is n
+pub one-left : (n j : ℕ) → j < n → n - j ≡ suc (n - (j + 1))
+one-left n j l = omega arith
+
+pub none-left : (n j : ℕ) → n ≤ j → n - j ≡ 0
+none-left n j l = omega arith
+
+-- one word at another place
+same-word : (ws : List ℕ) {a b : ℕ} → a ≡ b → getD ws a 0 ≡ getD ws b 0
+same-word ws e = ap (λ (k : ℕ). getD ws k 0) e
+
+pub runs-step : (ws : List ℕ) (n j : ℕ) → j < n → runsFrom ws n j ≡ runWords ws j ∷ runsFrom ws n (j + 1)
+unfolding runsIn
+runs-step ws n j l =
+    let start : getD (drop (4 + 2 * j) ws) 0 0 ≡ getD ws (4 + 2 * j) 0 = getD-drop (4 + 2 * j) ws 0 0 ∙ same-word ws {a = 4 + 2 * j + 0} {b = 4 + 2 * j} (omega arith) in
+    let offset : getD (drop (4 + 2 * j) ws) 1 0 ≡ getD ws (5 + 2 * j) 0 = getD-drop (4 + 2 * j) ws 1 0 ∙ same-word ws {a = 4 + 2 * j + 1} {b = 5 + 2 * j} (omega arith) in
+    let two : 4 + 2 * j + 2 ≡ 4 + 2 * (j + 1) = omega arith in
+    let rest : drop 2 (drop (4 + 2 * j) ws) ≡ drop (4 + 2 * (j + 1)) ws = drop-drop 2 (4 + 2 * j) ws ∙ ap (λ (k : ℕ). drop k ws) two in
+    ap (λ (k : ℕ). runsIn k (drop (4 + 2 * j) ws)) (one-left n j l)
+    ∙ ap₂ (λ (r : Run) (rs : List Run). r ∷ rs) (λ i. record { start = start i; offset = offset i }) (ap (λ (v : List ℕ). runsIn (n - (j + 1)) v) rest)
+
+pub runs-end : (ws : List ℕ) (n j : ℕ) → n ≤ j → runsFrom ws n j ≡ []
+unfolding runsIn
+runs-end ws n j l = ap (λ (k : ℕ). runsIn k (drop (4 + 2 * j) ws)) (none-left n j l)
+
+-- before the first turn all are left
+pub runs-all : (ws : List ℕ) (n : ℕ) → runsFrom ws n 0 ≡ runsIn n (drop 4 ws)
+runs-all ws n =
+    let none : n - 0 ≡ n = omega arith in
+    ap (λ (k : ℕ). runsIn k (drop 4 ws)) none

@@ -1,0 +1,86 @@
+// The opening's rules on the regions that a plan lists, 70 words each (the model's Memory): each function is a definition of the model's Opening,
+// over the words of one region or of all.
+ghost use mathlib.Core.Path.{_≡_};
+ghost use mathlib.Core.Bool.{_&&_};
+ghost use Prim.Native.Nat.{_+_, _*_, _≤_, _<_};
+ghost use lib.ListN.{length, getD, drop};
+ghost use Rattle.layout.specs.Block.{onBlock};
+ghost use Rattle.regionmap.specs.Map.{ascends};
+ghost use Rattle.regionmap.specs.Words.{runsIn, mapIn};
+ghost use Rattle.model.specs.Opening.{runsOnBlock, blocksRule, regionRule};
+ghost use Rattle.model.specs.Memory.{planIn};
+use crate::numbers::both;
+
+// "Starts strictly ascend, above 0 and below the capacity."
+fn starts_rise(map: &[u64], count: usize) -> bool
+    requires { ⌜ (4 + 2 * count ≤ length (now map)) × (count ≤ 32) ⌝ }
+    ensures { λ r. ⌜ r ≡ ascends 0 (runsIn count (drop 4 (now (map .entry)))) (getD (now (map .entry)) 1 0) ⌝ }
+{
+    let capacity = map[1];
+    let mut lo: u64 = 0;
+    let mut j: usize = 0;
+    while j < count {
+        let start = map[4 + 2 * j];
+        if start <= lo {
+            return false;
+        }
+        if capacity <= start {
+            return false;
+        }
+        lo = start;
+        j += 1;
+    }
+    true
+}
+
+// The j-th further run's start and card offset are multiples of the block.
+fn run_on_block(map: &[u64], j: usize, block: u64) -> bool
+    requires { ⌜ (6 + 2 * j ≤ length (now map)) × (j < 32) ⌝ }
+    ensures { λ r. ⌜ r ≡ (onBlock block (getD (now (map .entry)) (4 + 2 * j) 0) && onBlock block (getD (now (map .entry)) (5 + 2 * j) 0)) ⌝ }
+{
+    let start = map[4 + 2 * j];
+    let offset = map[5 + 2 * j];
+    both(layout::on_block(block, start), layout::on_block(block, offset))
+}
+
+// "Positions, card offsets .. are multiples of the block": of all further runs.
+fn runs_on_block(map: &[u64], count: usize, block: u64) -> bool
+    requires { ⌜ (4 + 2 * count ≤ length (now map)) × (count ≤ 32) ⌝ }
+    ensures { λ r. ⌜ r ≡ runsOnBlock block (runsIn count (drop 4 (now (map .entry)))) ⌝ }
+{
+    let mut j: usize = 0;
+    while j < count {
+        if !run_on_block(map, j, block) {
+            return false;
+        }
+        j += 1;
+    }
+    true
+}
+
+// The numbers of a region's map are multiples of the block.
+fn blocks_rule(map: &[u64], count: usize, block: u64) -> bool
+    requires { ⌜ (4 + 2 * count ≤ length (now map)) × ((count ≤ 32) × (count ≡ getD (now map) 3 0)) ⌝ }
+    ensures { λ r. ⌜ r ≡ blocksRule block (mapIn (now (map .entry))) ⌝ }
+{
+    let first = layout::on_block(block, map[0]);
+    let capacity = layout::on_block(block, map[1]);
+    let data = layout::on_block(block, map[2]);
+    both(first, both(capacity, both(data, runs_on_block(map, count, block))))
+}
+
+// The rules on one region, whose words these are.
+fn region_rule(region: &[u64], block: u64) -> bool
+    requires { ⌜ length (now region) ≡ 70 ⌝ }
+    ensures { λ r. ⌜ r ≡ regionRule block (planIn (now (region .entry))) ⌝ }
+{
+    let runs = region[5];
+    if 32 < runs {
+        return false;
+    }
+    let count = runs as usize;
+    let map = &region[2..];
+    let sizes = both(0 < map[1], map[2] <= map[1]);
+    let starts = both(starts_rise(map, count), blocks_rule(map, count, block));
+    both(region[1] < 0x1_0000_0000, both(true, both(sizes, starts)))
+}
