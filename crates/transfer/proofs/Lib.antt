@@ -1,2 +1,5 @@
 pub mod Turned
 pub mod Step
+pub mod Write
+pub mod Read
+pub mod Theorem

@@ -5,13 +5,14 @@ use mathlib.Core.Path.{_≡_, refl, sym, ap, _∙_}
 use mathlib.Core.List.{List, [], _∷_, _++_, append-nil, append-assoc}
 use Prim.Native.Nat.{ℕ, zero, suc, _+_, _-_, _*_, _≤_, _<_}
 use native.Mathlib.Omega.{arith}
-use native.Mathlib.Nat.{add-assoc}
-use lib.ListN.{length, length-append}
-use Rattle.regionmap.specs.Map.{Map, Piece, place}
+use native.Mathlib.Nat.{add-assoc, add-zero}
+use lib.ListN.{length, take, drop, length-append, length-drop, take-append-drop}
+use lib.Seq.{length-take-le}
+use Rattle.regionmap.specs.Map.{Map, Piece, pieces, place}
 use Rattle.regionmap.specs.Laws.{Lawful, OnePiece, Chain, MapLaws}
 use Rattle.iobuf.specs.Turn.{turned, stretch, withStretch, turnedIn}
-use Rattle.transfer.specs.Transfer.{Operation, turnAfter, Accepted}
-use Rattle.transfer.proofs.Turned.{turned-parts, turned-with}
+use Rattle.transfer.specs.Transfer.{Operation, bufferIn, turnAfter, Accepted}
+use Rattle.transfer.proofs.Turned.{turned-parts, stretch-length, with-own, stretch-with, with-twice, turned-with}
 
 -- ---- the pieces left
 
@@ -49,24 +50,52 @@ first laws o lawful inData done x xs c =
       follow = rw add-assoc at (c .3);
     }
 
+-- all pieces of the operation
+pub all-left : MapLaws → (o : Operation) → Lawful (o .map) → o .start + o .total ≤ o .map .dataLength → Left o 0 (pieces (o .map) (o .start) (o .total))
+all-left laws o lawful inData = rw add-zero (laws .covered (o .map) lawful (o .start) (o .total) inData)
+
 -- ---- the buffer
 
+-- the pool while bytes are left: the operation's bytes left, then those before them, then the buffer's bytes behind the operation's
+abbrev pub lying : Operation → List ℕ → List ℕ → List ℕ → List ℕ → List ℕ
+lying o pool tail rest before = withStretch (o .capacity) (o .buffer) (rest ++ (before ++ tail)) pool
+
 module _ (o : Operation) (pool : List ℕ) (fits : o .buffer * o .capacity + o .capacity ≤ length pool) (tail : List ℕ) (behind : o .total + length tail ≡ o .capacity) where
-  -- the pool while bytes are left: the operation's bytes left, then those before them
-  abbrev pub lying : List ℕ → List ℕ → List ℕ
-  lying rest before = withStretch (o .capacity) (o .buffer) (rest ++ (before ++ tail)) pool
+  whole : (rest before : List ℕ) → length rest + length before ≡ o .total → length (rest ++ (before ++ tail)) ≡ o .capacity
+  whole rest before h = simp length-append (omega arith)
 
-  pub lying-whole : (rest before : List ℕ) → length rest + length before ≡ o .total → length (rest ++ (before ++ tail)) ≡ o .capacity
-  lying-whole rest before h = simp length-append (omega arith)
+  -- what its buffer holds
+  pub lying-buffer : (rest before : List ℕ) → length rest + length before ≡ o .total → bufferIn o (lying o pool tail rest before) ≡ rest ++ (before ++ tail)
+  lying-buffer rest before h = stretch-with (o .capacity) (o .buffer) pool fits (rest ++ (before ++ tail)) (whole rest before h)
 
-  turned-lying : (k : ℕ) (a b : List ℕ) → length a ≡ k → length a + length b ≡ o .total → turnedIn (o .capacity) (o .buffer) (o .total) k (lying a b) ≡ lying b a
+  -- the pool with other bytes there
+  pub lying-with : (rest before bytes : List ℕ) → length rest + length before ≡ o .total → withStretch (o .capacity) (o .buffer) bytes (lying o pool tail rest before) ≡ withStretch (o .capacity) (o .buffer) bytes pool
+  lying-with rest before bytes h = with-twice (o .capacity) (o .buffer) pool fits (rest ++ (before ++ tail)) (whole rest before h) bytes
+
+  turned-lying : (k : ℕ) (a b : List ℕ) → length a ≡ k → length a + length b ≡ o .total → turnedIn (o .capacity) (o .buffer) (o .total) k (lying o pool tail a b) ≡ lying o pool tail b a
   turned-lying k a b p q =
-      turned-with (o .capacity) (o .buffer) pool fits (a ++ (b ++ tail)) (lying-whole a b q) (o .total) k
+      turned-with (o .capacity) (o .buffer) pool fits (a ++ (b ++ tail)) (whole a b q) (o .total) k
       ∙ ap (λ (z : List ℕ). withStretch (o .capacity) (o .buffer) z pool) (turned-parts (o .total) k a b tail p q)
 
   pub after-piece : (done : ℕ) (x : Piece) (xs : List Piece) (new rest before : List ℕ) → length before ≡ done → length new ≡ x .count
-      → length before + (length new + length rest) ≡ o .total → Left o (done + x .count) xs → turnAfter o done x xs (lying (new ++ rest) before) ≡ lying rest (before ++ new)
+      → length before + (length new + length rest) ≡ o .total → Left o (done + x .count) xs → turnAfter o done x xs (lying o pool tail (new ++ rest) before) ≡ lying o pool tail rest (before ++ new)
   unfolding turnAfter
   after-piece done x [] new [] before b n r c = simp (append-nil, append-assoc) (turned-lying (o .total - done) new before (omega (arith, left-none o (done + x .count) c)) (omega arith))
   after-piece done x [] new (y ∷ ys) before b n r c = absurd (omega (arith, left-none o (done + x .count) c))
   after-piece done x (y ∷ ys) new rest before b n r c = simp append-assoc (simp append-assoc at (turned-lying (x .count) new (rest ++ before) n (simp length-append (omega arith))))
+
+-- ---- the buffer at first
+
+module _ (o : Operation) (pool : List ℕ) (ok : Accepted o pool) where
+  whole-buffer : length (bufferIn o pool) ≡ o .capacity
+  whole-buffer = stretch-length (o .capacity) (o .buffer) pool (ok .inPool)
+
+  -- the operation's bytes, and the buffer's bytes behind them
+  pub front-length : length (take (o .total) (bufferIn o pool)) ≡ o .total
+  front-length = length-take-le (o .total) (bufferIn o pool) (omega (arith, whole-buffer, ok .inBuffer))
+
+  pub behind-length : o .total + length (drop (o .total) (bufferIn o pool)) ≡ o .capacity
+  behind-length = rw length-drop (omega (arith, whole-buffer, ok .inBuffer))
+
+  pub own-parts : withStretch (o .capacity) (o .buffer) (take (o .total) (bufferIn o pool) ++ drop (o .total) (bufferIn o pool)) pool ≡ pool
+  own-parts = rw (take-append-drop (o .total) (bufferIn o pool)) (with-own (o .capacity) (o .buffer) pool)
