@@ -2,4 +2,7 @@
 use Rattle.regionmap.specs.Laws.{MapLaws}
 use Rattle.transfer.specs.Transfer.{Transfers}
 use Rattle.transfer.proofs.Write.{write}
+use Rattle.transfer.proofs.Read.{read}
 
+pub transfers-by : MapLaws → Transfers
+transfers-by laws = record { write = write laws; read = read laws }
