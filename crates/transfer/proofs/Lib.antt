@@ -3,3 +3,4 @@ pub mod Step
 pub mod Write
 pub mod Read
 pub mod Theorem
+pub mod Example

@@ -72,17 +72,20 @@ module _ (o : Operation) (pool : List ℕ) (fits : o .buffer * o .capacity + o .
   pub lying-with : (rest before bytes : List ℕ) → length rest + length before ≡ o .total → withStretch (o .capacity) (o .buffer) bytes (lying o pool tail rest before) ≡ withStretch (o .capacity) (o .buffer) bytes pool
   lying-with rest before bytes h = with-twice (o .capacity) (o .buffer) pool fits (rest ++ (before ++ tail)) (whole rest before h) bytes
 
-  turned-lying : (k : ℕ) (a b : List ℕ) → length a ≡ k → length a + length b ≡ o .total → turnedIn (o .capacity) (o .buffer) (o .total) k (lying o pool tail a b) ≡ lying o pool tail b a
-  turned-lying k a b p q =
-      turned-with (o .capacity) (o .buffer) pool fits (a ++ (b ++ tail)) (whole a b q) (o .total) k
-      ∙ ap (λ (z : List ℕ). withStretch (o .capacity) (o .buffer) z pool) (turned-parts (o .total) k a b tail p q)
+  -- the operation's bytes, a then b, turn left by a
+  turned-lying : (k : ℕ) (a b x y : List ℕ) → x ≡ a ++ (b ++ tail) → b ++ (a ++ tail) ≡ y → length a ≡ k → length a + length b ≡ o .total
+      → turnedIn (o .capacity) (o .buffer) (o .total) k (withStretch (o .capacity) (o .buffer) x pool) ≡ withStretch (o .capacity) (o .buffer) y pool
+  turned-lying k a b x y e f p q =
+      rw (e, ← f)
+      (turned-with (o .capacity) (o .buffer) pool fits (a ++ (b ++ tail)) (whole a b q) (o .total) k
+      ∙ ap (λ (z : List ℕ). withStretch (o .capacity) (o .buffer) z pool) (turned-parts (o .total) k a b tail p q))
 
   pub after-piece : (done : ℕ) (x : Piece) (xs : List Piece) (new rest before : List ℕ) → length before ≡ done → length new ≡ x .count
       → length before + (length new + length rest) ≡ o .total → Left o (done + x .count) xs → turnAfter o done x xs (lying o pool tail (new ++ rest) before) ≡ lying o pool tail rest (before ++ new)
   unfolding turnAfter
-  after-piece done x [] new [] before b n r c = simp (append-nil, append-assoc) (turned-lying (o .total - done) new before (omega (arith, left-none o (done + x .count) c)) (omega arith))
+  after-piece done x [] new [] before b n r c = turned-lying _ new before _ _ (simp append-nil) (simp append-assoc) (omega (arith, left-none o (done + x .count) c)) (omega arith)
   after-piece done x [] new (y ∷ ys) before b n r c = absurd (omega (arith, left-none o (done + x .count) c))
-  after-piece done x (y ∷ ys) new rest before b n r c = simp append-assoc (simp append-assoc at (turned-lying (x .count) new (rest ++ before) n (simp length-append (omega arith))))
+  after-piece done x (y ∷ ys) new rest before b n r c = turned-lying _ new (rest ++ before) _ _ (simp append-assoc) (simp append-assoc) (omega arith) (simp length-append (omega arith))
 
 -- ---- the buffer at first
 

@@ -23,14 +23,15 @@ record Arrived (o : Operation) (done : ℕ) (bytes : List ℕ) (before after : C
 arrived-none : (o : Operation) (done : ℕ) (card : Card) → Arrived o done [] card card
 arrived-none o done card = record { arrived = λ i h. absurd (omega arith); others = λ x h. refl }
 
--- one piece
-arrived-piece : (o : Operation) (done : ℕ) (x : Piece) (xs : List Piece) (bytes : List ℕ) (card : Card) → First o done x xs → length bytes ≡ x .count
-    → Arrived o done bytes card (pwrite card (place (o .map) (x .position)) bytes)
-arrived-piece o done x xs bytes card f e =
-    record {
+-- one piece, with the bytes that it takes from the buffer
+arrived-piece : (o : Operation) (done : ℕ) (x : Piece) (xs : List Piece) (bytes taken : List ℕ) (card : Card) → First o done x xs → length bytes ≡ x .count → taken ≡ bytes
+    → Arrived o done bytes card (pwrite card (place (o .map) (x .position)) taken)
+arrived-piece o done x xs bytes taken card f e t =
+    rw t
+    (record {
       arrived = λ i h. ap (pwrite card (place (o .map) (x .position)) bytes) (f .consecutive i (omega arith)) ∙ transfer-laws .replaces card (place (o .map) (x .position)) bytes i h;
       others = λ y away. transfer-laws .others card (place (o .map) (x .position)) bytes y (λ i h p. away i h (f .consecutive i (omega arith) ∙ p));
-    }
+    })
 
 -- a piece and those behind it
 arrived-both : (o : Operation) → Distinct o → (done n : ℕ) (bytes : List ℕ) (a b c : Card) → n ≤ length bytes → done + length bytes ≤ o .total
@@ -78,7 +79,7 @@ module _ (laws : MapLaws) (o : Operation) (pool : List ℕ) (ok : Accepted o poo
       let more = walk xs (done + n) (drop n rest) (before ++ take n rest) (record { card = wrote o x s .card; pool = turnAfter o done x xs (s .pool) }) lies
           (length-append before (take n rest) ∙ (omega arith)) (rw length-append (omega arith)) (f .follow) in
       record {
-        arrives = arrived-both o distinct done n rest (s .card) (wrote o x s .card) (transferred wrote o done (x ∷ xs) s .card) fits (omega arith) (rw bytes (arrived-piece o done x xs (take n rest) (s .card) f front)) (more .arrives);
+        arrives = arrived-both o distinct done n rest (s .card) (wrote o x s .card) (transferred wrote o done (x ∷ xs) s .card) fits (omega arith) (arrived-piece o done x xs (take n rest) _ (s .card) f front bytes) (more .arrives);
         arranged = more .arranged ∙ ap (lying o pool tail []) (append-assoc before (take n rest) (drop n rest) ∙ ap (λ (z : List ℕ). before ++ z) (take-append-drop n rest));
       }
 
