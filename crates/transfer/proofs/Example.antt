@@ -11,27 +11,24 @@ use lib.Dec.{leb, lit≤}
 use borrow.Author.Tests.{le-leb, lt-leb}
 use Rattle.layout.specs.Pick.{pick}
 use Rattle.regionmap.specs.Map.{Run, Map, span, firstRun, spanFrom, runOf, runEnd, runLeft, place, pieceSize, Piece, piecesUpTo, pieces, ascends}
-use Rattle.regionmap.specs.Laws.{Lawful}
-use Rattle.transfer.specs.Transfer.{Operation, Accepted, Distinct}
+use Rattle.regionmap.specs.Laws.{Lawful, MapLaws}
+use Rattle.transfer.specs.Transfer.{Media, Operation, wrote, readIn, whole, Accepted, Distinct, OneWrite, OneRead}
+use Rattle.transfer.proofs.Theorem.{transfers-by}
 
 -- "first offset 1,024, one further run (1,024, 8,192), capacity and data 2,048"
 abbrev pub figures : Map
 figures = record { first = 1024; more = record { start = 1024; offset = 8192 } ∷ []; capacity = 2048; dataLength = 2048 }
 
--- 1,024 bytes of buffer 0 at a position
+-- 1,024 bytes of buffer 0 at a position; of "three buffers of 2,048"
 abbrev pub operation : ℕ → Operation
 operation start = record { map = figures; capacity = 2048; buffer = 0; start = start; total = 1024 }
-
--- "three buffers of 2,048"
-abbrev pub zeros : List ℕ
-zeros = replicate 6144 0
 
 pub lawful : Lawful figures
 unfolding ascends
 lawful = record { rising = refl; within = lit≤ tt }
 
-pub accepted : (start : ℕ) → start ≤ 1024 → Accepted (operation start) zeros
-accepted start h = record { lawful = lawful; inData = omega arith; inBuffer = lit≤ tt; inPool = rw (length-replicate 6144) (omega arith) }
+pub accepted : (start : ℕ) → start ≤ 1024 → (pool : List ℕ) → length pool ≡ 6144 → Accepted (operation start) pool
+accepted start h pool e = record { lawful = lawful; inData = omega arith; inBuffer = lit≤ tt; inPool = omega arith }
 
 -- the two runs' offsets
 place-first : (p : ℕ) → p < 1024 → place figures p ≡ 1024 + p
@@ -55,6 +52,20 @@ apart p q h k e = go (decLt p 1024) (decLt q 1024)
 pub distinct : (start : ℕ) → start ≤ 1024 → Distinct (operation start)
 distinct start h i j a b e = omega (arith, apart (start + i) (start + j) (omega arith) (omega arith) e)
 
+-- at 512, over a pool of zeros
+pub accepted-512 : Accepted (operation 512) (replicate 6144 0)
+accepted-512 = accepted 512 (lit≤ tt) (replicate 6144 0) (length-replicate {A = ℕ} 6144 0)
+
+pub distinct-512 : Distinct (operation 512)
+distinct-512 = distinct 512 (lit≤ tt)
+
+-- so 1,024 bytes written at any position that has as many behind it are one write, and read there one read
+pub one-write : MapLaws → (start : ℕ) → start ≤ 1024 → (s : Media) → length (s .pool) ≡ 6144 → OneWrite (operation start) s (whole wrote (operation start) s)
+one-write laws start h s e = transfers-by laws .write (operation start) s (accepted start h (s .pool) e) (distinct start h)
+
+pub one-read : MapLaws → (start : ℕ) → start ≤ 1024 → (s : Media) → length (s .pool) ≡ 6144 → OneRead (operation start) s (whole readIn (operation start) s)
+one-read laws start h s e = transfers-by laws .read (operation start) s (accepted start h (s .pool) e)
+
 -- "piece (1,536, 512)" and "piece (8,192, 512)", by their positions
 pub pieces-512 : pieces figures 512 1024 ≡ record { position = 512; count = 512 } ∷ record { position = 1024; count = 512 } ∷ []
 unfolding pieces piecesUpTo pieceSize runLeft runEnd runOf spanFrom pick
@@ -63,3 +74,8 @@ pieces-512 = refl
 pub pieces-256 : pieces figures 256 1024 ≡ record { position = 256; count = 768 } ∷ record { position = 1024; count = 256 } ∷ []
 unfolding pieces piecesUpTo pieceSize runLeft runEnd runOf spanFrom pick
 pieces-256 = refl
+
+-- "piece (1,536, 512)", "piece (8,192, 512)" and "Write of 512 at 256: offset 1,280"
+pub offsets : (place figures 512 ≡ 1536) × (place figures 1024 ≡ 8192) × (place figures 256 ≡ 1280)
+unfolding place runOf spanFrom pick
+offsets = (refl, refl, refl)

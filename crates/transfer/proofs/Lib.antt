@@ -1,3 +1,4 @@
+pub mod Small
 pub mod Turned
 pub mod Step
 pub mod Write

@@ -41,7 +41,7 @@ gathered-piece o done x xs card f =
     let long = transfer-laws .count card q n in
     ext-getD 0 (pread card q n) (gathered card (o .map) (o .start + done) n) (long ∙ sym (gathered-length card (o .map) (o .start + done) n))
     (λ i h. let k : i < n = omega arith in
-        transfer-laws .reads card q n i k ∙ ap card (sym (f .consecutive i k) ∙ ap (place (o .map)) (omega arith)) ∙ sym (gathered-at card (o .map) (o .start + done) n i k))
+    transfer-laws .reads card q n i k ∙ ap card (sym (f .consecutive i k) ∙ ap (place (o .map)) (omega arith)) ∙ sym (gathered-at card (o .map) (o .start + done) n i k))
 
 -- a piece's, and those left behind it
 gathered-left : (o : Operation) (done : ℕ) (x : Piece) (xs : List Piece) (card : Card) (left after : ℕ) → First o done x xs → x .count + after ≡ left
@@ -70,15 +70,15 @@ module _ (laws : MapLaws) (o : Operation) (pool : List ℕ) (ok : Accepted o poo
       let long = transfer-laws .count (s .card) (place m (x .position)) n in
       let count : length before + (length new + length (drop n rest)) ≡ o .total = omega (arith, length-drop n rest) in
       let bytes : new ++ drop n (bufferIn o (lying o pool tail rest before)) ≡ (new ++ drop n rest) ++ (before ++ tail) =
-          rw (lying-buffer o pool (ok .inPool) tail behind rest before (omega arith), append-assoc) (ap (λ (z : List ℕ). new ++ z) (drop-append-le n rest (before ++ tail) fits)) in
+      rw (lying-buffer o pool (ok .inPool) tail behind rest before (omega arith), append-assoc) (ap (λ (z : List ℕ). new ++ z) (drop-append-le n rest (before ++ tail) fits)) in
       let got : readIn o x s .pool ≡ lying o pool tail (new ++ drop n rest) before =
-          ap (λ (z : List ℕ). withStretch (o .capacity) (o .buffer) (new ++ drop n (bufferIn o z)) z) l
-          ∙ lying-with o pool (ok .inPool) tail behind rest before (new ++ drop n (bufferIn o (lying o pool tail rest before))) (omega arith)
-          ∙ ap (λ (z : List ℕ). withStretch (o .capacity) (o .buffer) z pool) bytes in
+      ap (λ (z : List ℕ). withStretch (o .capacity) (o .buffer) (new ++ drop n (bufferIn o z)) z) l
+      ∙ lying-with o pool (ok .inPool) tail behind rest before (new ++ drop n (bufferIn o (lying o pool tail rest before))) (omega arith)
+      ∙ ap (λ (z : List ℕ). withStretch (o .capacity) (o .buffer) z pool) bytes in
       let lies : turnAfter o done x xs (readIn o x s .pool) ≡ lying o pool tail (drop n rest) (before ++ new) =
-          ap (turnAfter o done x xs) got ∙ after-piece o pool (ok .inPool) tail behind done x xs new (drop n rest) before b long count (f .follow) in
+      ap (turnAfter o done x xs) got ∙ after-piece o pool (ok .inPool) tail behind done x xs new (drop n rest) before b long count (f .follow) in
       let more = walk xs (done + n) (drop n rest) (before ++ new) (record { card = s .card; pool = turnAfter o done x xs (readIn o x s .pool) }) lies
-          (length-append before new ∙ (omega arith)) (rw length-append (omega arith)) (f .follow) in
+      (length-append before new ∙ (omega arith)) (rw length-append (omega arith)) (f .follow) in
       record {
         kept = more .kept;
         brought = more .brought ∙ ap (lying o pool tail []) (append-assoc before new (gathered (s .card) m (o .start + (done + n)) (length (drop n rest))) ∙ ap (λ (z : List ℕ). before ++ z) (gathered-left o done x xs (s .card) (length rest) (length (drop n rest)) f (omega (arith, length-drop n rest))));

@@ -74,10 +74,10 @@ module _ (laws : MapLaws) (o : Operation) (pool : List ℕ) (ok : Accepted o poo
       let count : length before + (length (take n rest) + length (drop n rest)) ≡ o .total = omega (arith, length-drop n rest) in
       let bytes : take n (bufferIn o (s .pool)) ≡ take n rest = rw (l, lying-buffer o pool (ok .inPool) tail behind rest before (omega arith)) (take-append-le n rest (before ++ tail) fits) in
       let lies : turnAfter o done x xs (s .pool) ≡ lying o pool tail (drop n rest) (before ++ take n rest) =
-          ap (turnAfter o done x xs) (l ∙ ap (λ (z : List ℕ). lying o pool tail z before) (sym (take-append-drop n rest)))
-          ∙ after-piece o pool (ok .inPool) tail behind done x xs (take n rest) (drop n rest) before b front count (f .follow) in
+      ap (turnAfter o done x xs) (l ∙ ap (λ (z : List ℕ). lying o pool tail z before) (sym (take-append-drop n rest)))
+      ∙ after-piece o pool (ok .inPool) tail behind done x xs (take n rest) (drop n rest) before b front count (f .follow) in
       let more = walk xs (done + n) (drop n rest) (before ++ take n rest) (record { card = wrote o x s .card; pool = turnAfter o done x xs (s .pool) }) lies
-          (length-append before (take n rest) ∙ (omega arith)) (rw length-append (omega arith)) (f .follow) in
+      (length-append before (take n rest) ∙ (omega arith)) (rw length-append (omega arith)) (f .follow) in
       record {
         arrives = arrived-both o distinct done n rest (s .card) (wrote o x s .card) (transferred wrote o done (x ∷ xs) s .card) fits (omega arith) (arrived-piece o done x xs (take n rest) _ (s .card) f front bytes) (more .arrives);
         arranged = more .arranged ∙ ap (lying o pool tail []) (append-assoc before (take n rest) (drop n rest) ∙ ap (λ (z : List ℕ). before ++ z) (take-append-drop n rest));
