@@ -1,16 +1,15 @@
 -- The theorem is not empty: at document 01's figures its suppositions hold, of a range that meets the second run and of one that starts at no
 -- multiple of the block.
-use mathlib.Core.Path.{_≡_, refl, sym, ap, _∙_}
-use mathlib.Core.Bool.{Bool, true, false}
+use mathlib.Core.Path.{_≡_, refl}
 use mathlib.Core.List.{List, [], _∷_}
-use Prim.Native.Nat.{ℕ, zero, suc, _+_, _-_, _*_, _≤_, _<_}
+use Prim.Native.Nat.{ℕ, _+_, _-_, _≤_, _<_}
 use native.Mathlib.Omega.{arith}
 use native.Mathlib.Decide.{decLt}
 use lib.ListN.{length, replicate, length-replicate}
-use lib.Dec.{leb, lit≤}
+use lib.Dec.{lit≤}
 use borrow.Author.Tests.{le-leb, lt-leb}
 use Rattle.layout.specs.Pick.{pick}
-use Rattle.regionmap.specs.Map.{Run, Map, span, firstRun, spanFrom, runOf, runEnd, runLeft, place, pieceSize, Piece, piecesUpTo, pieces, ascends}
+use Rattle.regionmap.specs.Map.{Map, spanFrom, runOf, runEnd, runLeft, place, pieceSize, piecesUpTo, pieces, ascends}
 use Rattle.regionmap.specs.Laws.{Lawful, MapLaws}
 use Rattle.transfer.specs.Transfer.{Media, Operation, wrote, readIn, whole, Accepted, Distinct, OneWrite, OneRead}
 use Rattle.transfer.proofs.Theorem.{transfers-by}

@@ -1,6 +1,7 @@
 pub mod Small
 pub mod Turned
 pub mod Step
+pub mod Walk
 pub mod Write
 pub mod Read
 pub mod Theorem

@@ -4,7 +4,7 @@ use mathlib.Core.Path.{_≡_, refl}
 use mathlib.Core.List.{List, [], _∷_, map}
 use Prim.Native.Nat.{ℕ}
 use Rattle.layout.specs.Pick.{pick}
-use Rattle.regionmap.specs.Map.{Map, Run, Piece, spanFrom, runOf, runEnd, runLeft, place, pieceSize, piecesUpTo, pieces}
+use Rattle.regionmap.specs.Map.{spanFrom, runOf, runEnd, runLeft, place, pieceSize, piecesUpTo, pieces}
 use Rattle.iobuf.specs.Turn.{turned, stretch, withStretch, turnedIn}
 use Rattle.posix.specs.Posix.{pread, within, pwrite}
 use Rattle.transfer.specs.Transfer.{Media, Operation, wrote, readIn, turnAfter, transferred, whole}
