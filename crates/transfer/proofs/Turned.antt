@@ -31,6 +31,11 @@ module _ (capacity b : ℕ) (pool : List ℕ) where
     unfolding stretch
     stretch-length = length-take-le capacity (drop (b * capacity) pool) (rw length-drop (omega arith))
 
+    -- the turn of a buffer that the pool has
+    pub turned-fits : (n k : ℕ) → turnedIn capacity b n k pool ≡ withStretch capacity b (turned n k (stretch capacity b pool)) pool
+    unfolding turnedIn pick
+    turned-fits n k = rw (le-leb (b * capacity + capacity) (length pool) fits)
+
     module _ (x : List ℕ) (whole : length x ≡ capacity) where
       pub stretch-with : stretch capacity b (withStretch capacity b x pool) ≡ x
       unfolding stretch withStretch
@@ -50,8 +55,9 @@ module _ (capacity b : ℕ) (pool : List ℕ) where
           let d : drop (b * capacity + capacity) (front ++ (x ++ tail)) ≡ tail = rw (← append-assoc front x tail) (drop-at (front ++ x) tail (b * capacity + capacity) e) in
           rw (take-at front (x ++ tail) (b * capacity) room, d)
 
-      -- the turn in the pool is the turn of the bytes there
-      pub turned-with : (n k : ℕ) → turnedIn capacity b n k (withStretch capacity b x pool) ≡ withStretch capacity b (turned n k x) pool
-      unfolding turnedIn pick
-      turned-with n k =
-          rw (with-length, le-leb (b * capacity + capacity) (length pool) fits, stretch-with) (with-twice (turned n k x))
+-- the turn in the pool is the turn of the bytes there
+pub turned-with : (capacity b : ℕ) (pool : List ℕ) → b * capacity + capacity ≤ length pool → (x : List ℕ) → length x ≡ capacity → (n k : ℕ)
+    → turnedIn capacity b n k (withStretch capacity b x pool) ≡ withStretch capacity b (turned n k x) pool
+turned-with capacity b pool fits x whole n k =
+    turned-fits capacity b (withStretch capacity b x pool) (rw (with-length capacity b pool fits x whole) fits) n k
+    ∙ (rw (stretch-with capacity b pool fits x whole) (with-twice capacity b pool fits x whole (turned n k x)))

@@ -38,19 +38,19 @@ arrived-both o pool distinct done n bytes new later a b c k l p q =
     record {
       same = ap₂ _++_ (p .same) (q .same) ∙ take-append-drop n bytes;
       arrived = λ i h. go i h (decLt i n);
-      others = λ x away. q .others x (λ i h e. away (n + i) (omega (arith, length-drop n bytes)) (ap at (omega arith) ∙ e)) ∙ p .others x (λ i h e. away i (omega (arith, taken)) e);
+      others = λ x away. q .others x (λ i h e. away (n + i) (omega (arith, length-drop n bytes)) (ap at (omega arith) ∙ e)) ∙ p .others x (λ i h e. away i (omega (arith, size)) e);
     }
   where
     at : ℕ → ℕ
     at i = place (o .map) (o .start + i)
 
-    taken : length (take n bytes) ≡ n
-    taken = length-take-le n bytes k
+    size : length (take n bytes) ≡ n
+    size = length-take-le n bytes k
 
     go : (i : ℕ) → i < length bytes → Dec (i < n) → c (place (o .map) (o .start + (done + i))) ≡ getD bytes i 0
     go i h (yes s) =
         q .others (at (done + i)) (λ j t e. let u = distinct (done + n + j) (done + i) (omega (arith, length-drop n bytes)) (omega arith) e in omega arith)
-        ∙ p .arrived i (omega (arith, taken))
+        ∙ p .arrived i (omega (arith, size))
         ∙ getD-take n bytes i 0 s
     go i h (no s) =
         ap (λ (j : ℕ). c (at j)) (omega arith) ∙ q .arrived (i - n) (omega (arith, length-drop n bytes)) ∙ getD-drop n bytes (i - n) 0 ∙ ap (λ (j : ℕ). getD bytes j 0) (omega arith)
