@@ -1,0 +1,8 @@
+pub mod Small
+pub mod Turned
+pub mod Step
+pub mod Walk
+pub mod Write
+pub mod Read
+pub mod Theorem
+pub mod Example
