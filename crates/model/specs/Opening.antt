@@ -66,16 +66,16 @@ abbrev pub generationRule : Plan → Bool
 generationRule p = ltb (p .generation) (2 ^ 32)
 
 -- "up to 32 further runs"
-abbrev pub runsRule : Plan → Bool
-runsRule p = leb (length (p .map .more)) 32
+abbrev pub runsRule : Map → Bool
+runsRule m = leb (length (m .more)) 32
 
 -- "a positive capacity and a data length of at most the capacity"
-abbrev pub sizesRule : Plan → Bool
-sizesRule p = ltb 0 (p .map .capacity) && leb (p .map .dataLength) (p .map .capacity)
+abbrev pub sizesRule : Map → Bool
+sizesRule m = ltb 0 (m .capacity) && leb (m .dataLength) (m .capacity)
 
 -- "Starts strictly ascend, above 0 and below the capacity."
-unfoldable pub startsRule : Plan → Bool
-startsRule p = ascends 0 (p .map .more) (p .map .capacity)
+abbrev pub startsRule : Map → Bool
+startsRule m = ascends 0 (m .more) (m .capacity)
 
 -- "Positions, card offsets and lengths here are multiples of the block."
 unfoldable pub runsOnBlock : ℕ → List Run → Bool
@@ -85,8 +85,11 @@ runsOnBlock b (r ∷ rs) = onBlock b (r .start) && (onBlock b (r .offset) && run
 unfoldable pub blocksRule : ℕ → Map → Bool
 blocksRule b m = onBlock b (m .first) && (onBlock b (m .capacity) && (onBlock b (m .dataLength) && runsOnBlock b (m .more)))
 
+unfoldable pub mapRule : ℕ → Map → Bool
+mapRule b m = runsRule m && (sizesRule m && (startsRule m && blocksRule b m))
+
 unfoldable pub regionRule : ℕ → Plan → Bool
-regionRule b p = generationRule p && (runsRule p && (sizesRule p && (startsRule p && blocksRule b (p .map))))
+regionRule b p = generationRule p && mapRule b (p .map)
 
 unfoldable pub eachRegion : ℕ → List Plan → Bool
 eachRegion b [] = true

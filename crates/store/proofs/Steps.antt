@@ -3,8 +3,8 @@ use mathlib.Core.Path.{_≡_, refl, sym, ap, ap₂, _∙_}
 use mathlib.Core.List.{List, [], _∷_}
 use Prim.Native.Nat.{ℕ, zero, suc, _+_, _-_, _*_, _≤_, _<_}
 use native.Mathlib.Omega.{arith}
-use lib.ListN.{getD, drop, take}
-use lib.Seq.{getD-drop, drop-drop}
+use lib.ListN.{length, getD, drop, take, length-drop}
+use lib.Seq.{getD-drop, drop-drop, take-all}
 use Rattle.regionmap.specs.Map.{Run}
 use Rattle.regionmap.specs.Words.{runsIn}
 
@@ -46,3 +46,12 @@ pub runs-all : (ws : List ℕ) (n : ℕ) → runsFrom ws n 0 ≡ runsIn n (drop 
 runs-all ws n =
     let none : n - 0 ≡ n = omega arith in
     ap (λ (k : ℕ). runsIn k (drop 4 ws)) none
+
+pub runs-length : (n : ℕ) (ws : List ℕ) → length (runsIn n ws) ≡ n
+unfolding runsIn
+runs-length zero ws = refl
+runs-length (suc n) ws = ap suc (runs-length n (drop 2 ws))
+
+-- a part up to the end
+pub to-the-end : (k : ℕ) (ws : List ℕ) → take (length ws - k) (drop k ws) ≡ drop k ws
+to-the-end k ws = take-all (length ws - k) (drop k ws) (simp length-drop (omega arith))

@@ -7,7 +7,7 @@ ghost use lib.ListN.{length, getD, drop};
 ghost use Rattle.layout.specs.Block.{onBlock};
 ghost use Rattle.regionmap.specs.Map.{ascends};
 ghost use Rattle.regionmap.specs.Words.{runsIn, mapIn};
-ghost use Rattle.model.specs.Opening.{runsOnBlock, blocksRule, regionRule};
+ghost use Rattle.model.specs.Opening.{runsOnBlock, blocksRule, mapRule, regionRule};
 ghost use Rattle.model.specs.Memory.{planIn};
 use crate::numbers::both;
 
@@ -69,18 +69,26 @@ fn blocks_rule(map: &[u64], count: usize, block: u64) -> bool
     both(first, both(capacity, both(data, runs_on_block(map, count, block))))
 }
 
+// The rules on one region's map.
+fn map_rule(map: &[u64], block: u64) -> bool
+    requires { ⌜ length (now map) ≡ 68 ⌝ }
+    ensures { λ r. ⌜ r ≡ mapRule block (mapIn (now (map .entry))) ⌝ }
+{
+    let runs = map[3];
+    if 32 < runs {
+        return false;
+    }
+    let count = runs as usize;
+    let sizes = both(0 < map[1], map[2] <= map[1]);
+    let starts = both(starts_rise(map, count), blocks_rule(map, count, block));
+    both(true, both(sizes, starts))
+}
+
 // The rules on one region, whose words these are.
 fn region_rule(region: &[u64], block: u64) -> bool
     requires { ⌜ length (now region) ≡ 70 ⌝ }
     ensures { λ r. ⌜ r ≡ regionRule block (planIn (now (region .entry))) ⌝ }
 {
-    let runs = region[5];
-    if 32 < runs {
-        return false;
-    }
-    let count = runs as usize;
-    let map = &region[2..];
-    let sizes = both(0 < map[1], map[2] <= map[1]);
-    let starts = both(starts_rise(map, count), blocks_rule(map, count, block));
-    both(region[1] < 0x1_0000_0000, both(true, both(sizes, starts)))
+    let generation = region[1];
+    both(generation < 0x1_0000_0000, map_rule(&region[2..], block))
 }

@@ -53,7 +53,7 @@ both-requires-3 c κs = search needs
 -- src/plan.rt:62:1
 returns : tie.Need-returns
 unfolding blocksRule mapIn
-returns c = ?
+returns c = cc (c .before .before .before .before .before .before .before .before .before .before .before .pre .1 .1)
 
 pub blocks-rule-spec : {M : Type 1} → statement M
 blocks-rule-spec =
