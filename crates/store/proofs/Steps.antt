@@ -3,9 +3,13 @@ use mathlib.Core.Path.{_≡_, refl, sym, ap, ap₂, _∙_}
 use mathlib.Core.List.{List, [], _∷_}
 use Prim.Native.Nat.{ℕ, zero, suc, _+_, _-_, _*_, _≤_, _<_}
 use native.Mathlib.Omega.{arith}
+use lib.Dec.{lit<}
 use lib.ListN.{length, getD, drop, take, length-drop}
-use lib.Seq.{getD-drop, drop-drop, take-all}
+use lib.Seq.{getD-drop, getD-take, drop-drop, take-all}
 use Rattle.regionmap.specs.Map.{Run}
+use Rattle.model.specs.Opening.{Plan}
+use Rattle.model.specs.Memory.{planIn, plansIn}
+use Rattle.store.specs.Plans.{plansFrom}
 use Rattle.regionmap.specs.Words.{runsIn}
 
 -- the j-th further run of a map in words
@@ -55,3 +59,35 @@ runs-length (suc n) ws = ap suc (runs-length n (drop 2 ws))
 -- a part up to the end
 pub to-the-end : (k : ℕ) (ws : List ℕ) → take (length ws - k) (drop k ws) ≡ drop k ws
 to-the-end k ws = take-all (length ws - k) (drop k ws) (simp length-drop (omega arith))
+
+-- the words of the h-th region of a plan
+abbrev pub regionWords : List ℕ → ℕ → List ℕ
+regionWords ws h = take 70 (drop (70 * h) ws)
+
+pub plans-step : (ws : List ℕ) (n h : ℕ) → h < n → plansFrom ws n h ≡ planIn (regionWords ws h) ∷ plansFrom ws n (h + 1)
+unfolding plansIn
+plans-step ws n h l =
+    let one : 70 * h + 70 ≡ 70 * (h + 1) = omega arith in
+    let rest : drop 70 (drop (70 * h) ws) ≡ drop (70 * (h + 1)) ws = drop-drop 70 (70 * h) ws ∙ ap (λ (k : ℕ). drop k ws) one in
+    ap (λ (k : ℕ). plansIn k (drop (70 * h) ws)) (one-left n h l)
+    ∙ ap (λ (v : List ℕ). planIn (regionWords ws h) ∷ plansIn (n - (h + 1)) v) rest
+
+pub plans-end : (ws : List ℕ) (n h : ℕ) → n ≤ h → plansFrom ws n h ≡ []
+unfolding plansIn
+plans-end ws n h l = ap (λ (k : ℕ). plansIn k (drop (70 * h) ws)) (none-left n h l)
+
+pub plans-all : (ws : List ℕ) (n : ℕ) → plansFrom ws n 0 ≡ plansIn n ws
+plans-all ws n =
+    let none : n - 0 ≡ n = omega arith in
+    ap (λ (k : ℕ). plansIn k ws) none
+
+-- the h-th region's id is the first of its words
+pub id-word : (ws : List ℕ) (h : ℕ) → planIn (regionWords ws h) .id ≡ getD ws (70 * h) 0
+unfolding planIn
+id-word ws h = getD-take 70 (drop (70 * h) ws) 0 0 (lit< tt) ∙ getD-drop (70 * h) ws 0 0 ∙ same-word ws {a = 70 * h + 0} {b = 70 * h} (omega arith)
+
+-- as a part of the plan
+pub part-of-70 : (ws : List ℕ) (h : ℕ) → take (70 * h + 70 - 70 * h) (drop (70 * h) ws) ≡ regionWords ws h
+part-of-70 ws h =
+    let all : 70 * h + 70 - 70 * h ≡ 70 = omega arith in
+    ap (λ (k : ℕ). take k (drop (70 * h) ws)) all

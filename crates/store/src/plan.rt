@@ -7,8 +7,9 @@ ghost use lib.ListN.{length, getD, drop};
 ghost use Rattle.layout.specs.Block.{onBlock};
 ghost use Rattle.regionmap.specs.Map.{ascends};
 ghost use Rattle.regionmap.specs.Words.{runsIn, mapIn};
-ghost use Rattle.model.specs.Opening.{runsOnBlock, blocksRule, mapRule, regionRule};
-ghost use Rattle.model.specs.Memory.{planIn};
+ghost use Rattle.model.specs.Opening.{runsOnBlock, blocksRule, mapRule, regionRule, eachRegion, among, idsRule};
+ghost use Rattle.model.specs.Memory.{planIn, plansIn};
+ghost use Rattle.store.specs.Plans.{idsFrom};
 use crate::numbers::both;
 
 // "Starts strictly ascend, above 0 and below the capacity."
@@ -91,4 +92,51 @@ fn region_rule(region: &[u64], block: u64) -> bool
 {
     let generation = region[1];
     both(generation < 0x1_0000_0000, map_rule(&region[2..], block))
+}
+
+// The rules on each region of the plan.
+pub(crate) fn each_region(plan: &[u64], regions: usize, block: u64) -> bool
+    requires { ⌜ (70 * regions ≤ length (now plan)) × (regions ≤ 8) ⌝ }
+    ensures { λ r. ⌜ r ≡ eachRegion block (plansIn regions (now (plan .entry))) ⌝ }
+{
+    let mut h: usize = 0;
+    while h < regions {
+        let at = 70 * h;
+        let end = at + 70;
+        if !region_rule(&plan[at..end], block) {
+            return false;
+        }
+        h += 1;
+    }
+    true
+}
+
+// Whether a region from the one at `from` on has the id.
+fn id_among(plan: &[u64], from: usize, regions: usize, id: u64) -> bool
+    requires { ⌜ (70 * regions ≤ length (now plan)) × ((regions ≤ 8) × (from ≤ regions)) ⌝ }
+    ensures { λ r. ⌜ r ≡ among id (idsFrom (now (plan .entry)) regions from) ⌝ }
+{
+    let mut h = from;
+    while h < regions {
+        if id == plan[70 * h] {
+            return true;
+        }
+        h += 1;
+    }
+    false
+}
+
+// "distinct ids": no region has the id of one behind it.
+pub(crate) fn ids_rule(plan: &[u64], regions: usize) -> bool
+    requires { ⌜ (70 * regions ≤ length (now plan)) × (regions ≤ 8) ⌝ }
+    ensures { λ r. ⌜ r ≡ idsRule (plansIn regions (now (plan .entry))) ⌝ }
+{
+    let mut h: usize = 0;
+    while h < regions {
+        if id_among(plan, h + 1, regions, plan[70 * h]) {
+            return false;
+        }
+        h += 1;
+    }
+    true
 }
