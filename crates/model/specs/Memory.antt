@@ -160,7 +160,7 @@ stateIn c l =
 -- ---- what an opening writes
 
 -- a flag as a word
-unfoldable pub word01 : Bool → ℕ
+abbrev pub word01 : Bool → ℕ
 word01 true = 1
 word01 false = 0
 
@@ -192,10 +192,25 @@ storeHead o l =
 unfoldable pub over : {A : Type 0} → List A → List A → List A
 over xs ys = xs ++ drop (length xs) ys
 
--- what is lent once an opening is admitted: what the table needs is written at the front of each part, and nothing else
+-- What each part holds once an opening is admitted: what the table needs is written at its front, and nothing else.
+unfoldable pub rowsOpened : ℕ → List Row → List Row
+rowsOpened depth rows = over (replicate depth (freed 0)) rows
+
+unfoldable pub storeOpened : Opening → List ℕ → Lengths → List ℕ → List ℕ
+storeOpened o plan l store = over (storeHead o l ++ take (70 * o .regions) plan) store
+
+unfoldable pub freeOpened : ℕ → List ℕ → List ℕ
+freeOpened depth free = over (upFrom 0 depth) free
+
+unfoldable pub readyOpened : List ℕ → List ℕ
+readyOpened ready = over (0 ∷ []) ready
+
+unfoldable pub ownersOpened : ℕ → List ℕ → List ℕ
+ownersOpened buffers owners = over (replicate buffers 0) owners
+
 unfoldable pub openedLent : Opening → List ℕ → Lent → Lent
 openedLent o plan l =
-    record { rows = over (replicate (o .depth) (freed 0)) (l .rows); store = over (storeHead o (lengthsOf l) ++ take (70 * o .regions) plan) (l .store); free = over (upFrom 0 (o .depth)) (l .free); ready = over (0 ∷ []) (l .ready); owners = over (replicate (o .buffers) 0) (l .owners); pool = l .pool }
+    record { rows = rowsOpened (o .depth) (l .rows); store = storeOpened o plan (lengthsOf l) (l .store); free = freeOpened (o .depth) (l .free); ready = readyOpened (l .ready); owners = ownersOpened (o .buffers) (l .owners); pool = l .pool }
 
 -- "On 13 nothing lent is changed"
 unfoldable pub lentAfter : Opening → List ℕ → Lent → Lent

@@ -1,9 +1,12 @@
 // How an opening fills the words that are lent: what it writes stands at the front of each part, and nothing behind it changes.
 ghost use mathlib.Core.Path.{_≡_};
 ghost use mathlib.Core.List.{_++_};
-ghost use Prim.Native.Nat.{_+_, _≤_};
+ghost use Prim.Native.Nat.{_+_, _*_, _≤_};
 ghost use lib.ListN.{length, take, drop, replicate};
 ghost use Rattle.model.specs.State.{upFrom};
+ghost use Rattle.model.specs.Memory.{word01, storeOpened};
+use model::Lengths;
+use model::Opening;
 
 // All words of src, copied to dst from `at` on.
 pub(crate) fn put_words(src: &[u64], dst: &mut [u64], at: usize)
@@ -39,4 +42,29 @@ pub(crate) fn count_up(dst: &mut [u64], n: usize)
         dst[i] = i as u64;
         i += 1;
     }
+}
+
+// A flag as a word.
+fn word(b: bool) -> u64
+    ensures { λ r. ⌜ r ≡ word01 b ⌝ }
+{
+    if b { 1 } else { 0 }
+}
+
+// The settings, the lengths, no poison, open gates, and then the plan's regions.
+pub(crate) fn put_store(o: Opening, plan: &[u64], l: Lengths, store: &mut [u64])
+    requires { ⌜ (o .regions ≤ 8) × ((70 * o .regions ≤ length (now plan)) × (48 + 70 * o .regions ≤ length (now store))) ⌝ }
+    ensures { λ _. ⌜ now (store .exit) ≡ storeOpened o (now (plan .entry)) l (now (store .entry)) ⌝ }
+{
+    let read_only = word(o.read_only);
+    let flush = word(o.flush);
+    let head = [
+        o.block, o.depth, o.lifetime, o.card, o.buffers, o.capacity, read_only, flush, o.volume, o.class, o.label, o.epoch,
+        o.regions, l.rows, l.store, l.free, l.ready, l.owners, l.pool, 0, 0, 0, 0, 0, 0, 0, 0, 0, 0, 0, 0, 0, 0, 0, 0, 0, 0, 0,
+        0, 0, 0, 0, 0, 0, 0, 0, 0, 0,
+    ];
+    let regions = o.regions as usize;
+    let n = 70 * regions;
+    put_words(&head, store, 0);
+    put_words(&plan[..n], store, 48);
 }
