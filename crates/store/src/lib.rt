@@ -5,3 +5,58 @@ mod numbers;
 mod plan;
 
 ghost use mathlib.Core.Path.{_≡_};
+ghost use Rattle.model.specs.Memory.{opens};
+ghost use Rattle.store.specs.Prepared.{lengthsWith, Prepared};
+use model::Lengths;
+use model::Opening;
+
+// Whether all rules of an opening hold.
+pub fn admits(o: Opening, plan: &[u64], l: Lengths) -> bool
+    ensures { λ r. ⌜ r ≡ opens o (now (plan .entry)) l ⌝ }
+{
+    if !numbers::numbers(o) {
+        return false;
+    }
+    if !numbers::lengths(o, l, plan.len() as u64) {
+        return false;
+    }
+    let regions = o.regions as usize;
+    if !plan::each_region(plan, regions, o.block) {
+        return false;
+    }
+    let card = numbers::both(card::within_rule(plan, regions, o.card), numbers::both(card::apart_rule(plan, regions), true));
+    numbers::both(plan::ids_rule(plan, regions), card)
+}
+
+// Writes the table of an admitted opening into the row memory, but for the rows, whose number it returns; else 0, and nothing is written.
+pub fn prepare(
+    o: Opening,
+    plan: &[u64],
+    rows: usize,
+    store: &mut [u64],
+    free: &mut [u64],
+    ready: &mut [u64],
+    owners: &mut [u64],
+    pool: usize,
+) -> usize
+    ensures { λ r. ⌜ Prepared o (now (plan .entry)) (lengthsWith rows (now (store .entry)) (now (free .entry)) (now (ready .entry)) (now (owners .entry)) pool) r (now (store .entry)) (now (free .entry)) (now (ready .entry)) (now (owners .entry)) (now (store .exit)) (now (free .exit)) (now (ready .exit)) (now (owners .exit)) ⌝ }
+{
+    let l = Lengths {
+        rows: rows as u64,
+        store: store.len() as u64,
+        free: free.len() as u64,
+        ready: ready.len() as u64,
+        owners: owners.len() as u64,
+        pool: pool as u64,
+    };
+    if !admits(o, plan, l) {
+        return 0;
+    }
+    let depth = o.depth as usize;
+    let buffers = o.buffers as usize;
+    fill::put_store(o, plan, l, store);
+    fill::count_up(free, depth);
+    fill::zeros(ready, 1);
+    fill::zeros(owners, buffers);
+    depth
+}

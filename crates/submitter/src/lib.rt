@@ -1,0 +1,46 @@
+// The calls that a host makes (store-io's submitter/mod.rs). The opening stands here; submissions and answers follow it.
+ghost use mathlib.Core.Path.{_≡_};
+ghost use Rattle.submitter.specs.Open.{lentOf, OpensTo};
+use model::Counts;
+use model::Opening;
+use model::Row;
+
+// The reply to an opening: the table's counts, or 13.
+pub enum Opened {
+    Table(Counts),
+    No,
+}
+
+// The reply, by how many rows there are.
+fn reply(depth: usize) -> Opened
+    ensures { λ r. ⌜ r ≡ openedWith depth ⌝ }
+{
+    if depth == 0 {
+        Opened::No
+    } else {
+        Opened::Table(Counts {
+            live: 0,
+            ready: 0,
+            submissions: 0,
+        })
+    }
+}
+
+// Opens a table in what is lent (Store::submitter). The plan lists the regions, 70 words each. 13 where a rule of document 01's "Opening" is broken
+// or a part of the row memory is too short, and then nothing is changed.
+pub fn open(
+    o: Opening,
+    plan: &[u64],
+    rows: &mut [Row],
+    store: &mut [u64],
+    free: &mut [u64],
+    ready: &mut [u64],
+    owners: &mut [u64],
+    pool: &[u8],
+) -> Opened
+    ensures { λ r. ⌜ OpensTo o (now (plan .entry)) (lentOf (now (rows .entry)) (now (store .entry)) (now (free .entry)) (now (ready .entry)) (now (owners .entry)) (now (pool .entry))) r (now (rows .exit)) (now (store .exit)) (now (free .exit)) (now (ready .exit)) (now (owners .exit)) ⌝ }
+{
+    let depth = store::prepare(o, plan, rows.len(), store, free, ready, owners, pool.len());
+    optable::new(rows, depth);
+    reply(depth)
+}
