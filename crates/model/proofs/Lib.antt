@@ -1,2 +1,3 @@
 -- Proofs about the definitions of specs/.
 pub mod Rules
+pub mod Opened

@@ -2,13 +2,16 @@
 use mathlib.Core.Path.{_≡_}
 use mathlib.Core.Bool.{Bool, true, _&&_}
 use mathlib.Core.List.{List, [], _∷_}
-use Prim.Native.Nat.{ℕ, _≤_}
+use Prim.Native.Nat.{ℕ, _*_, _≤_}
+use lib.ListN.{length}
 use borrow.Author.Tests.{leb-true}
 use lib.Dec.{leb}
 use Rattle.layout.specs.Block.{onBlock}
 use Rattle.layout.proofs.Tests.{and-left, and-right}
 use Rattle.model.specs.declared.Opening.{Opening}
-use Rattle.model.specs.Opening.{between, allTrue, numberRules}
+use Rattle.model.specs.declared.Lengths.{Lengths}
+use Rattle.model.specs.Opening.{between, allTrue, numberRules, lengthRules, regionRules, admits}
+use Rattle.model.specs.Memory.{plansIn, listed, opens}
 use Rattle.model.specs.Meaning.{Numbers}
 
 -- the first test, and the rest
@@ -50,3 +53,24 @@ numbers-mean o h₁ =
       most-regions = at-most _ _ _ (head-true _ _ h₆);
       card = leb-true _ _ (head-true _ _ h₇)
     }
+
+-- ---- the parts of an admitted opening
+
+module _ (o : Opening) (plan : List ℕ) (l : Lengths) (h : opens o plan l ≡ true) where
+  pub numbers-hold : Numbers o
+  unfolding opens admits
+  numbers-hold = numbers-mean o (and-left (allTrue (numberRules o)) _ h)
+
+  rest-holds : (allTrue (lengthRules o (listed o plan) l) && allTrue (regionRules o (plansIn (o .regions) plan))) ≡ true
+  unfolding opens admits
+  rest-holds = and-right (allTrue (numberRules o)) _ h
+
+  lengths-hold : allTrue (lengthRules o (listed o plan) l) ≡ true
+  lengths-hold = and-left (allTrue (lengthRules o (listed o plan) l)) _ rest-holds
+
+  pub regions-hold : allTrue (regionRules o (plansIn (o .regions) plan)) ≡ true
+  regions-hold = and-right (allTrue (lengthRules o (listed o plan) l)) _ rest-holds
+
+  pub plan-listed : 70 * o .regions ≤ length plan
+  unfolding lengthRules listed
+  plan-listed = leb-true _ _ (head-true _ _ (tail-true _ _ (tail-true _ _ lengths-hold)))

@@ -2,3 +2,4 @@ pub mod State
 pub mod Opening
 pub mod Memory
 pub mod Meaning
+pub mod Laws
