@@ -2,8 +2,8 @@
 -- "The run of a position starts at the last start not above it, the first run at 0. It ends at the next start or the capacity, cut to
 -- the data length. Offset = the run's card offset + position − start. A piece is the smaller of the run's rest and the bytes left."
 -- A position counts in a region and an offset on the card: here both are numbers; the code has a type for each (src/lib.rt).
-use mathlib.Core.Bool.{Bool, true, false, _&&_}
-use mathlib.Core.List.{List, [], _∷_}
+use mathlib.Core.Bool.{Bool, true, false, _&&_, _||_}
+use mathlib.Core.List.{List, [], _∷_, map}
 use Prim.Native.Nat.{ℕ, zero, suc, _+_, _-_, min}
 use lib.Dec.{leb, ltb}
 use Rattle.layout.specs.Pick.{pick}
@@ -87,3 +87,32 @@ spansFrom r (x ∷ xs) cap = span r (x .start) ∷ spansFrom x xs cap
 
 unfoldable pub spans : Map → List Span
 spans m = spansFrom (firstRun m) (m .more) (m .capacity)
+
+-- where a run lies on the card: its offset there, and how many bytes it has
+pub record Extent : Type 0 where
+  pub offset : ℕ
+  pub size : ℕ
+
+unfoldable pub extent : Span → Extent
+extent s = record { offset = s .offset; size = s .end - s .start }
+
+unfoldable pub extents : Map → List Extent
+extents m = map extent (spans m)
+
+-- two extents share no card byte: one ends where the other begins or before
+unfoldable pub apart : Extent → Extent → Bool
+apart a b = leb (a .offset + a .size) (b .offset) || leb (b .offset + b .size) (a .offset)
+
+unfoldable pub apartFrom : Extent → List Extent → Bool
+apartFrom x [] = true
+apartFrom x (y ∷ ys) = apart x y && apartFrom x ys
+
+-- "No two runs share a card byte": each is apart from all behind it
+unfoldable pub allApart : List Extent → Bool
+allApart [] = true
+allApart (x ∷ xs) = apartFrom x xs && allApart xs
+
+-- "and all lie within the card's size"
+unfoldable pub allWithin : ℕ → List Extent → Bool
+allWithin size [] = true
+allWithin size (x ∷ xs) = leb (x .offset + x .size) size && allWithin size xs
