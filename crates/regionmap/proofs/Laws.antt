@@ -51,7 +51,7 @@ chain (suc k) m law p (suc n) l within =
     let c = pieceSize m p (suc n) in
     let one : OnePiece m p (suc n) = one-piece m law p (suc n) (suc-le-suc zero-le) (omega arith) in
     let rest : Chain m (p + c) (piecesUpTo k m (p + c) (suc n - c)) (p + c + (suc n - c)) =
-        chain k m law (p + c) (suc n - c) (omega (arith, one .some)) (omega (arith, one .most)) in
+    chain k m law (p + c) (suc n - c) (omega (arith, one .some)) (omega (arith, one .most)) in
     let end : p + c + (suc n - c) ≡ p + suc n = omega (arith, one .most) in
     let size : c ≡ pieceSize m p (p + suc n - p) = ap (pieceSize m p) (omega arith) in
     (refl, size, one .some, subst (Chain m (p + c) (piecesUpTo k m (p + c) (suc n - c))) end rest)
