@@ -1,14 +1,15 @@
 -- The laws of the map. The run of a position is the only run that holds it (Runs), so positions up to its end share it, and their offsets
 -- are consecutive; runs that share no card byte give different offsets (Extents).
 use mathlib.Core.Path.{_≡_, refl, sym, ap, _∙_, subst}
-use mathlib.Core.Logic.{_≢_, _⊎_, ⊎-elim}
+use mathlib.Core.Logic.{_≢_, ⊎-elim}
 use mathlib.Core.Bool.{true}
-use mathlib.Core.List.{List, [], _∷_, List·Memᴰ, Memᴰ·map}
-use Prim.Native.Nat.{ℕ, zero, suc, _+_, _-_, _≤_, _<_, _^_, min, zero-le, suc-le-suc}
+use mathlib.Core.List.{List·Memᴰ, Memᴰ·map}
+use Prim.Native.Nat.{ℕ, zero, suc, _+_, _-_, _≤_, _<_, _^_, zero-le, suc-le-suc}
 use native.Mathlib.Nat.{le-refl, mod-eq-of-lt}
 use native.Mathlib.Omega.{arith}
 use lib.ListN.{length}
-use Rattle.regionmap.specs.Map.{Map, Span, firstRun, runOf, runEnd, runLeft, place, pieceSize, Piece, piecesUpTo, pieces, spans, Extent, extent, extents, apart, allApart, allWithin}
+use Rattle.regionmap.specs.Map.{Map, Span, firstRun, runOf, runEnd, runLeft, place, pieceSize, piecesUpTo, pieces}
+use Rattle.regionmap.specs.Map.{spans, Extent, extent, extents, apart, allApart, allWithin}
 use Rattle.regionmap.specs.Words.{wrap64}
 use Rattle.regionmap.specs.Laws.{Lawful, Holds, OneRun, OnePiece, Chain, Separate, MapLaws, ExtentLaws}
 use Rattle.regionmap.proofs.Runs.{listed, holds, only}
