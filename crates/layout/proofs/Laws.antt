@@ -2,7 +2,7 @@
 -- the bounds on the number bound the power.
 use mathlib.Core.Path.{_≡_, refl, sym, ap, _∙_, subst}
 use mathlib.Core.Logic.{_⊎_, inl, inr, ⊎-elim}
-use mathlib.Core.Bool.{Bool, true, false, _&&_, _||_}
+use mathlib.Core.Bool.{true, false, _&&_, _||_}
 use Prim.Native.Nat.{ℕ, zero, suc, _+_, _-_, _*_, _/_, _%_, _≤_, _<_, _^_}
 use native.Mathlib.Nat.{le-of-suc-le-suc, not-suc-le-zero, eq-or-lt-of-le, div-add-mod, mul-mod-right, add-zero, lt-of-le-of-lt, lt-of-lt-of-le}
 use native.Mathlib.Omega.{arith}
@@ -41,7 +41,10 @@ power-test (suc k) j n e l = last (eq-or-lt-of-le (le-of-suc-le-suc l)) (power-t
 
 -- the order of two powers is that of their logarithms
 log-less : (i j : ℕ) → 2 ^ i < 2 ^ j → i < j
-log-less i j h = ⊎-elim (λ (t : leb (suc i) j ≡ true). leb-true (suc i) j t) (λ (f : leb (suc i) j ≡ false). absurd (over (leb-false (suc i) j f))) (true-or-false (leb (suc i) j))
+log-less i j h =
+    ⊎-elim (λ (t : leb (suc i) j ≡ true). leb-true (suc i) j t)
+    (λ (f : leb (suc i) j ≡ false). absurd (over (leb-false (suc i) j f)))
+    (true-or-false (leb (suc i) j))
   where
     over : j < suc i → ⊥
     over l = ⊎-elim (λ (q : j ≡ i). omega (arith, ap (λ (x : ℕ). 2 ^ x) q)) (λ (q : j < i). omega (arith, pow-lt q)) (eq-or-lt-of-le (le-of-suc-le-suc l))

@@ -1,5 +1,5 @@
 -- "Block is a power of two, 512 to 65,536." "Positions, card offsets and lengths here are multiples of the block."
-use mathlib.Core.Bool.{Bool, true, false, _&&_, _||_}
+use mathlib.Core.Bool.{Bool, false, _&&_, _||_}
 use Prim.Native.Nat.{ℕ, zero, suc, _%_, _^_}
 use lib.Dec.{leb, eqb}
 

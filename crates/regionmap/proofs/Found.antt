@@ -4,13 +4,12 @@ use mathlib.Core.Path.{_≡_, refl, sym, ap, _∙_, subst}
 use mathlib.Core.Bool.{true}
 use mathlib.Core.List.{List}
 use Prim.Native.Nat.{ℕ, zero, suc, _+_, _-_, _*_, _≤_, _<_}
-use native.Mathlib.Nat.{not-suc-le-zero, le-refl, le-trans, le-of-lt, le-of-suc-le-suc}
+use native.Mathlib.Nat.{not-suc-le-zero, le-refl, le-trans, le-of-suc-le-suc}
 use native.Mathlib.Omega.{arith}
-use lib.ListN.{length, getD, drop}
+use lib.ListN.{getD, drop}
 use lib.Seq.{getD-drop}
-use Rattle.regionmap.specs.Map.{Run, Span, span, spanFrom, runOf, ascends}
+use Rattle.regionmap.specs.Map.{Run, span, spanFrom, runOf, ascends}
 use Rattle.regionmap.proofs.Runs.{rises, span-here, span-behind}
-use Rattle.regionmap.specs.declared.FoundRun.{FoundRun}
 use Rattle.regionmap.specs.Words.{runsIn, mapIn, HoldsMap, startIn, LastStart, positionOf, offsetOf, foundOf}
 
 -- the run behind the k-th
@@ -53,15 +52,12 @@ met {ws} {n} {p} {lo} {hi} b h =
       passed = λ l. subst (λ (x : ℕ). x < n → p < startIn ws (x + 1)) e (b .passed) l;
     }
 
-double : (k : ℕ) → 2 + 2 * k ≡ 2 * suc k
-double k = omega arith
+-- a word of the rest of the words, counted from their front
+word-on : (n : ℕ) (vs : List ℕ) (i j : ℕ) → n + i ≡ j → getD (drop n vs) i 0 ≡ getD vs j 0
+word-on n vs i j e = getD-drop n vs i 0 ∙ ap (λ (x : ℕ). getD vs x 0) e
 
--- two words on, in the same words
 two-on : (vs : List ℕ) (k : ℕ) → getD (drop 2 vs) (2 * k) 0 ≡ getD vs (2 * suc k) 0
-two-on vs k = getD-drop 2 vs (2 * k) 0 ∙ ap (λ (i : ℕ). getD vs i 0) (double k)
-
-two-on-next : (vs : List ℕ) (k : ℕ) → getD (drop 2 vs) (2 * k + 1) 0 ≡ getD vs (2 * suc k + 1) 0
-two-on-next vs k = getD-drop 2 vs (2 * k + 1) 0 ∙ ap (λ (i : ℕ). getD vs i 0) (omega arith)
+two-on vs k = word-on 2 vs (2 * k) (2 * suc k) (omega arith)
 
 -- the first of ascending starts is the least
 first-least : (n k lo cap : ℕ) (vs : List ℕ) → ascends lo (runsIn n vs) cap ≡ true → k < n → getD vs 0 0 ≤ getD vs (2 * k) 0
@@ -85,7 +81,7 @@ runAt r vs (suc k) = record { start = getD vs (2 * k) 0; offset = getD vs (2 * k
 
 run-on : (r : Run) (vs : List ℕ) (k : ℕ) → runAt (first vs) (drop 2 vs) k ≡ runAt r vs (suc k)
 run-on r vs zero = refl
-run-on r vs (suc k) = λ i. record { start = two-on vs k i; offset = two-on-next vs k i }
+run-on r vs (suc k) = λ i. record { start = two-on vs k i; offset = word-on 2 vs (2 * k + 1) (2 * suc k + 1) (omega arith) i }
 
 -- of n runs in words the k-th is the last that starts not above p, and ends before e
 record Last (vs : List ℕ) (n cap p k e : ℕ) : Type 0 where
@@ -127,38 +123,36 @@ end-next l q = record { next = λ _. q; none = λ g. absurd (omega arith) }
 pub end-last : {ws : List ℕ} {n k e : ℕ} → n ≤ k → e ≡ getD ws 1 0 → EndIs ws n k e
 end-last l q = record { next = λ g. absurd (omega arith); none = λ _. q }
 
+-- the run of a position, by what the halving and the code found
 module _ (ws : List ℕ) (h : HoldsMap ws) (p k e : ℕ) (l : LastStart ws (getD ws 3 0) p k) (ends : EndIs ws (getD ws 3 0) k e) where
   at-four : (j : ℕ) → getD (drop 4 ws) (2 * j) 0 ≡ getD ws (2 * j + 4) 0
-  at-four j = getD-drop 4 ws (2 * j) 0 ∙ ap (λ (i : ℕ). getD ws i 0) (omega arith)
+  at-four j = word-on 4 ws (2 * j) (2 * j + 4) (omega arith)
 
   last : Last (drop 4 ws) (getD ws 3 0) (getD ws 1 0) p k e
   last = record {
     among = l .among;
-    reached = λ j q. subst (λ (x : ℕ). x ≤ p) (ap (λ (i : ℕ). getD ws i 0) (omega arith) ∙ sym (at-four j)) (l .reached (omega arith));
+    reached = λ j q. subst (λ (x : ℕ). x ≤ p) (sym (word-on 4 ws (2 * j) (2 * k + 2) (omega arith))) (l .reached (omega arith));
     passed = λ b. subst (λ (x : ℕ). p < x) (sym (start-next ws k) ∙ sym (at-four k)) (l .passed b);
     next = λ b. ends .next b ∙ sym (at-four k);
     none = ends .none;
   }
 
-  run-is : runOf (mapIn ws) p ≡ span (runAt (record { start = 0; offset = getD ws 0 0 }) (drop 4 ws) k) e
+  run-is : (j : ℕ) → k ≡ j → runOf (mapIn ws) p ≡ span (runAt (record { start = 0; offset = getD ws 0 0 }) (drop 4 ws) j) e
   unfolding runOf mapIn
-  run-is = last-run _ (getD ws 3 0) k 0 (getD ws 1 0) p e (drop 4 ws) (h .rising) last
+  run-is j q =
+      last-run _ (getD ws 3 0) k 0 (getD ws 1 0) p e (drop 4 ws) (h .rising) last
+      ∙ ap (λ (x : ℕ). span (runAt (record { start = 0; offset = getD ws 0 0 }) (drop 4 ws) x) e) q
 
   pub found-first : k ≡ 0 → record { start = positionOf 0; file = offsetOf (getD ws 0 0); end = positionOf e } ≡ foundOf (runOf (mapIn ws) p)
   unfolding foundOf
-  found-first q = ap foundOf (sym (run-is ∙ ap (λ (x : ℕ). span (runAt (record { start = 0; offset = getD ws 0 0 }) (drop 4 ws) x) e) q))
+  found-first q = ap foundOf (sym (run-is 0 q))
 
   further : (j : ℕ) → k ≡ suc j → runOf (mapIn ws) p ≡ record { start = getD ws (2 * k + 2) 0; offset = getD ws (2 * k + 2 + 1) 0; end = e }
   further j q =
-      run-is ∙ ap (λ (x : ℕ). span (runAt (record { start = 0; offset = getD ws 0 0 }) (drop 4 ws) x) e) q
-      ∙ (λ i. record { start = here i; offset = there i; end = e })
-    where
-      here : getD (drop 4 ws) (2 * j) 0 ≡ getD ws (2 * k + 2) 0
-      here = getD-drop 4 ws (2 * j) 0 ∙ ap (λ (i : ℕ). getD ws i 0) (omega arith)
+      run-is (suc j) q
+      ∙ (λ i. record { start = word-on 4 ws (2 * j) (2 * k + 2) (omega arith) i; offset = word-on 4 ws (2 * j + 1) (2 * k + 2 + 1) (omega arith) i; end = e })
 
-      there : getD (drop 4 ws) (2 * j + 1) 0 ≡ getD ws (2 * k + 2 + 1) 0
-      there = getD-drop 4 ws (2 * j + 1) 0 ∙ ap (λ (i : ℕ). getD ws i 0) (omega arith)
-
-  pub found-further : 0 < k → record { start = positionOf (getD ws (2 * k + 2) 0); file = offsetOf (getD ws (2 * k + 2 + 1) 0); end = positionOf e } ≡ foundOf (runOf (mapIn ws) p)
+  pub found-further : 0 < k
+      → record { start = positionOf (getD ws (2 * k + 2) 0); file = offsetOf (getD ws (2 * k + 2 + 1) 0); end = positionOf e } ≡ foundOf (runOf (mapIn ws) p)
   unfolding foundOf
   found-further q = ap foundOf (sym (further (k - 1) (omega arith)))

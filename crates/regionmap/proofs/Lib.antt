@@ -1,3 +1,5 @@
--- What the proofs of this crate share: a list of runs, and the words of a map.
+-- The laws of the map, and what the proofs of this crate share: a list of runs, the words of a map, extents on the card.
 mod Runs
 mod Found
+mod Extents
+pub mod Laws

@@ -1,3 +1,4 @@
+-- The map, how it lies in words, and its laws.
 pub mod Map
 pub mod Words
 pub mod Laws

@@ -2,7 +2,7 @@
 -- "The run of a position starts at the last start not above it, the first run at 0. It ends at the next start or the capacity, cut to
 -- the data length. Offset = the run's card offset + position − start. A piece is the smaller of the run's rest and the bytes left."
 -- A position counts in a region and an offset on the card: here both are numbers; the code has a type for each (src/lib.rt).
-use mathlib.Core.Bool.{Bool, true, false, _&&_, _||_}
+use mathlib.Core.Bool.{Bool, true, _&&_, _||_}
 use mathlib.Core.List.{List, [], _∷_, map}
 use Prim.Native.Nat.{ℕ, zero, suc, _+_, _-_, min}
 use lib.Dec.{leb, ltb}

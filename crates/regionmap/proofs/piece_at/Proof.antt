@@ -36,7 +36,7 @@ returns c = λ h.
     let end : at-min .min .result ≡ _ = at-min .min .ensures ∙ ap₂ min (ap (λ (r : FoundRun). r .end .0) run) (at-min .before .data-length .ensures h) in
     let rest : c .before .rest .result ≡ _ = c .before .rest .ensures ∙ ap (λ (x : ℕ). x - pos) end in
     let offset : c .before .before .offset-in .result ≡ _ =
-        c .before .before .offset-in .ensures ∙ ap (λ (r : FoundRun). offsetOf (wrap64 (r .file .0 + (pos - r .start .0)))) run in
+    c .before .before .offset-in .ensures ∙ ap (λ (r : FoundRun). offsetOf (wrap64 (r .file .0 + (pos - r .start .0)))) run in
     let count : c .min2 .result ≡ _ = c .min2 .ensures ∙ ap (λ (x : ℕ). min x (at-run .before .before .args .left)) rest in
     λ i. record { offset = offset i; count = count i }
 

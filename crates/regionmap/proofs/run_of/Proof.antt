@@ -10,10 +10,10 @@ use Rattle.regionmap.proofs.Found.{EndIs, end-next, end-last, found-fir
 use Rattle.regionmap.proofs.run_of.Statement.{statement}
 use Rattle.regionmap.proofs.run_of.Tie as tie
 
--- what the code took for the run's end
 abbrev words : tie.Joined3 → List ℕ
 words c = now (c .before .before .before .before .before .before .args .map)
 
+-- what the code took for the run's end
 ends : (c : tie.Joined3) → EndIs (words c) (getD (words c) 3 0) (c .before .runs-up-to .result) (c .if3 .end)
 ends c = ⊎-elim (λ w. end-next (w .0 .taken) (w .2)) (λ w. end-last (w .0 .left) (w .2)) (c .if3 .came)
 
