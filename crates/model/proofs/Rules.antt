@@ -54,6 +54,11 @@ numbers-mean o h₁ =
       card = leb-true _ _ (head-true _ _ h₇)
     }
 
+-- the plan lists the opening's regions
+pub listed-mean : (o : Opening) (plan : List ℕ) (l : Lengths) → allTrue (lengthRules o (listed o plan) l) ≡ true → 70 * o .regions ≤ length plan
+unfolding lengthRules listed
+listed-mean o plan l h = leb-true _ _ (head-true _ _ (tail-true _ _ (tail-true _ _ h)))
+
 -- ---- the parts of an admitted opening
 
 module _ (o : Opening) (plan : List ℕ) (l : Lengths) (h : opens o plan l ≡ true) where
@@ -72,5 +77,4 @@ module _ (o : Opening) (plan : List ℕ) (l : Lengths) (h : opens o plan l ≡ t
   regions-hold = and-right (allTrue (lengthRules o (listed o plan) l)) _ rest-holds
 
   pub plan-listed : 70 * o .regions ≤ length plan
-  unfolding lengthRules listed
-  plan-listed = leb-true _ _ (head-true _ _ (tail-true _ _ (tail-true _ _ lengths-hold)))
+  plan-listed = listed-mean o plan l lengths-hold

@@ -16,7 +16,7 @@ use Rattle.layout.specs.Pick.{pick}
 use Rattle.layout.proofs.Tests.{true-or-false, and-left, and-right}
 use Rattle.regionmap.specs.Map.{Run, span, spansFrom, spans, Extent, extent, extents, apart, apartFrom, allApart, allWithin}
 use Rattle.regionmap.specs.Words.{runsIn, mapIn}
-use Rattle.model.specs.Opening.{generationRule, runsRule, regionRule, eachRegion, allExtents}
+use Rattle.model.specs.Opening.{generationRule, runsRule, regionRule, mapRule, eachRegion, allExtents}
 use Rattle.model.specs.Memory.{planIn, plansIn}
 use Rattle.store.proofs.Steps.{runWords, runsFrom, one-left, none-left, runs-step, runs-end, runs-all}
 
@@ -230,12 +230,12 @@ map-room ws h l = simp (length-drop, length-take) (omega arith)
 
 -- what the rules require of a plan follows from the rules on each region
 pub few-runs : (b n : ℕ) (ws : List ℕ) → eachRegion b (plansIn n ws) ≡ true → (h : ℕ) → h < n → getD ws (70 * h + 5) 0 ≤ 32
-unfolding eachRegion plansIn planIn regionRule mapIn
+unfolding eachRegion plansIn planIn regionRule mapRule mapIn
 few-runs b zero ws e h l = absurd (not-suc-le-zero l)
 few-runs b (suc n) ws e zero l =
     let p = planIn (take 70 ws) in
     let rule : regionRule b p ≡ true = and-left (regionRule b p) (eachRegion b (plansIn n (drop 70 ws))) e in
-    let runs : runsRule p ≡ true = and-left (runsRule p) _ (and-right (generationRule p) _ rule) in
+    let runs : runsRule (p .map) ≡ true = and-left (runsRule (p .map)) _ (and-right (generationRule p) _ rule) in
     omega (arith, leb-true (length (p .map .more)) 32 runs, runs-length (getD (drop 2 (take 70 ws)) 3 0) (drop 4 (drop 2 (take 70 ws))), count-word ws 0)
 few-runs b (suc n) ws e (suc h) l =
     let behind = and-right (regionRule b (planIn (take 70 ws))) (eachRegion b (plansIn n (drop 70 ws))) e in
