@@ -1,12 +1,14 @@
 -- The equations of lists that the steps of a turn in place come down to: a list is cut into its blocks, and each side is those blocks in order.
 use mathlib.Core.Path.{_≡_, refl, sym, ap, _∙_}
+use mathlib.Core.Logic.{_⊎_, inl, inr}
 use mathlib.Core.List.{List, [], _∷_, _++_, append-assoc, append-nil}
 use Prim.Native.Nat.{ℕ, zero, suc, _+_, _-_, _≤_, _<_, min}
+use native.Mathlib.Nat.{le-antisymm}
 use native.Mathlib.Numerals.{add-one}
 use native.Mathlib.Omega.{arith}
 use lib.ListN.{length, take, drop, getD, set, length-append, length-take, length-drop, take-append-drop, drop-of-length-le}
 use lib.Seq.{length-take-le, take-all, take-suc, drop-cons, take-append-le, drop-append-le, getD-take, getD-drop, take-take, drop-drop, take-add, set-at, take-at, drop-at, getD-at, paste, slice-empty, slice-cons, length-slice}
-use Rattle.iobuf.specs.Blocks.{exchanged}
+use Rattle.iobuf.specs.Blocks.{exchanged, Block}
 
 -- a copy through `held`: h is what it held before and h₁ what it holds between, p is the place that was copied to
 pub hopped : (s h h₁ p : List ℕ) (from to : ℕ) → h₁ ≡ take (from + length h - from) (drop from s) → length h₁ ≡ length h → p ≡ h₁
@@ -92,3 +94,118 @@ exchange-next l d k i below within e =
     let more₄ : drop (k + (i + 1)) l ≡ z = ap (λ (n : ℕ). drop n l) next in
     let there : exchanged k (i + 1) l ≡ p ++ (y ∷ ((q ++ r) ++ (x ∷ z))) = (λ t. more₁ t ++ (more₂ t ++ (more₃ t ++ more₄ t))) ∙ simp append-assoc in
     swap-two p (q ++ r) z x y i (k + i) pi j d parts ∙ sym there
+
+-- all of a list turned left by k
+abbrev pub rot : ℕ → List ℕ → List ℕ
+rot k l = drop k l ++ take k l
+
+-- what stands at the front of a list whose first n bytes were replaced
+pub front-held : (d e : List ℕ) (n : ℕ) → n ≤ length d → length e ≡ length (take n d) → take n (e ++ drop n d) ≡ e
+front-held d e n h long = take-at e (drop n d) n (long ∙ length-take-le n d h)
+
+-- a part that reaches to the end is what lies from its start on, and nothing lies past it
+pub to-end : (s : List ℕ) (at : ℕ) → take (length s - at) (drop at s) ≡ drop at s
+to-end s at = take-all (length s - at) (drop at s) (simp length-drop (omega arith))
+
+pub end-long : (s : List ℕ) (at : ℕ) → length (take (length s - at) (drop at s)) ≡ length s - at
+end-long s at = ap length (to-end s at) ∙ length-drop at s
+
+pub past-end : (s p : List ℕ) (at : ℕ) → take at s ++ (p ++ drop (length s - at) (drop at s)) ≡ take at s ++ p
+past-end s p at =
+    ap (λ (r : List ℕ). take at s ++ (p ++ r)) (drop-of-length-le (drop at s) {i = length s - at} (simp length-drop (omega arith)))
+    ∙ ap (λ (r : List ℕ). take at s ++ r) (append-nil p)
+
+-- the saved first k bytes p put behind the others, which were moved to the front
+pub put-behind : (l s p : List ℕ) (k : ℕ) → k ≤ length l → s ≡ drop k l ++ drop (length l - k) l → p ≡ take k l
+    → take (length l - k) s ++ (p ++ drop (length s - (length l - k)) (drop (length l - k) s)) ≡ rot k l
+put-behind l s p k h e q =
+    past-end s p (length l - k)
+    ∙ (λ i. take (length l - k) (e i) ++ q i)
+    ∙ ap (λ (r : List ℕ). r ++ take k l) (take-at (drop k l) (drop (length l - k) l) (length l - k) (length-drop k l))
+
+-- the saved bytes p from k on put before the others, which were moved to the back
+pub put-before : (l s p : List ℕ) (k : ℕ) → k ≤ length l → s ≡ take (length l - k) l ++ take (length l - (length l - k)) l → p ≡ drop k l
+    → p ++ drop (length l - k) s ≡ rot k l
+put-before l s p k h e q =
+    let back : length l - (length l - k) ≡ k = omega arith in
+    (λ i. q i ++ drop (length l - k) (e i))
+    ∙ ap (λ (r : List ℕ). drop k l ++ r)
+        (drop-at (take (length l - k) l) (take (length l - (length l - k)) l) (length l - k) (length-take-le (length l - k) l (omega arith))
+          ∙ ap (λ (n : ℕ). take n l) back)
+
+-- once the front has been exchanged with the block at k it holds what belongs there, and the rest is cut as it came
+exchanged-front : (l : List ℕ) (k m : ℕ) → k + m ≤ length l → take m (exchanged k m l) ≡ take m (drop k l)
+unfolding exchanged
+exchanged-front l k m h = take-at (take m (drop k l)) _ m (simp (length-take, length-drop) (omega arith))
+
+exchanged-rest : (l : List ℕ) (k m : ℕ) → k + m ≤ length l → drop m (exchanged k m l) ≡ drop m (take k l) ++ (take m l ++ drop (k + m) l)
+unfolding exchanged
+exchanged-rest l k m h = drop-at (take m (drop k l)) _ m (simp (length-take, length-drop) (omega arith))
+
+-- where the first side is the shorter, the rest is turned by as much as the whole
+pub near : (l : List ℕ) (k : ℕ) → k + k ≤ length l → take k (exchanged k k l) ++ rot k (drop k (exchanged k k l)) ≡ rot k l
+near l k h =
+    let a : List ℕ = take k l in
+    let z : List ℕ = drop (k + k) l in
+    let long : length a ≡ k = length-take-le k l (omega arith) in
+    let rest : drop k (exchanged k k l) ≡ a ++ z = exchanged-rest l k k h ∙ ap (λ (r : List ℕ). r ++ (a ++ z)) (slice-empty k l) in
+    (λ i. exchanged-front l k k h i ++ rot k (rest i))
+    ∙ (λ i. take k (drop k l) ++ (drop-at a z k long i ++ take-at a z k long i))
+    ∙ sym (append-assoc (take k (drop k l)) z a)
+    ∙ ap (λ (r : List ℕ). r ++ a) (ap (λ (r : List ℕ). take k (drop k l) ++ r) (sym (drop-drop k k l)) ∙ take-append-drop k (drop k l))
+
+-- where the second side, of m bytes, is the shorter, the rest is turned by m less
+pub far : (l : List ℕ) (k m : ℕ) → m ≤ k → k + m ≡ length l → take m (exchanged k m l) ++ rot (k - m) (drop m (exchanged k m l)) ≡ rot k l
+far l k m b h =
+    let a : List ℕ = take m l in
+    let q : List ℕ = drop m (take k l) in
+    let long : length q ≡ k - m = length-slice m k l (omega arith) in
+    let front : take m (exchanged k m l) ≡ drop k l = exchanged-front l k m (omega arith) ∙ take-all m (drop k l) (simp length-drop (omega arith)) in
+    let none : drop (k + m) l ≡ [] = drop-of-length-le l {i = k + m} (omega arith) in
+    let rest : drop m (exchanged k m l) ≡ q ++ a =
+      exchanged-rest l k m (omega arith) ∙ ap (λ (r : List ℕ). q ++ (a ++ r)) none ∙ ap (λ (r : List ℕ). q ++ r) (append-nil a) in
+    (λ i. front i ++ rot (k - m) (rest i))
+    ∙ (λ i. drop k l ++ (drop-at q a (k - m) long i ++ take-at q a (k - m) long i))
+    ∙ ap (λ (r : List ℕ). drop k l ++ r) (ap (λ (r : List ℕ). r ++ q) (sym (take-take m k l b)) ∙ take-append-drop m (take k l))
+
+-- a step on the part from `at` on, said of the whole: p is what the step leaves of the part, and its first m bytes are done
+pub onward : (s p : List ℕ) (at m k : ℕ) → at ≤ length s
+    → take (at + m) (take at s ++ p) ++ rot k (drop (at + m) (take at s ++ p)) ≡ take at s ++ (take m p ++ rot k (drop m p))
+onward s p at m k h =
+    let long : length (take at s) ≡ at = length-take-le at s h in
+    let front : take (at + m) (take at s ++ p) ≡ take at s ++ take m p =
+      take-add at m (take at s ++ p) ∙ (λ i. take-at (take at s) p at long i ++ take m (drop-at (take at s) p at long i)) in
+    let rest : drop (at + m) (take at s ++ p) ≡ drop m p = sym (drop-drop m at (take at s ++ p)) ∙ ap (drop m) (drop-at (take at s) p at long) in
+    (λ i. front i ++ rot k (rest i)) ∙ append-assoc (take at s) (take m p) (rot k (drop m p))
+
+closes : (at k m k′ n : ℕ) → m ≡ k → k′ ≡ k → at + k ≤ n → k + m ≤ n - at → (at + m) + k′ ≤ n
+closes at k m k′ n e f h b = omega arith
+
+twice : (k m n : ℕ) → m ≡ k → k + m ≤ n → k + k ≤ n
+twice k m n e h = omega arith
+
+-- a turn of the blocks' loop: p is the part from `at` on after the exchange, and the rest is turned by k′ to give what is wanted
+pub step : (s p want : List ℕ) (at k k′ m : ℕ) → at + k ≤ length s → Block (length s - at) k m → 0 < m
+    → p ≡ exchanged k m (take (length s - at) (drop at s)) → take at s ++ rot k (drop at s) ≡ want → ((m < k) × (k′ ≡ k - m)) ⊎ ((k ≤ m) × (k′ ≡ k))
+    → ((at + m) + k′ ≤ length s)
+      × (take (at + m) (take at s ++ (p ++ drop (length s - at) (drop at s))) ++ rot k′ (drop (at + m) (take at s ++ (p ++ drop (length s - at) (drop at s)))) ≡ want)
+step s p want at k k′ m h b pos q e (inl (less, eq)) =
+    let l : List ℕ = drop at s in
+    let all : k + m ≡ length l = b .whole pos less ∙ sym (length-drop at s) in
+    let p-is : p ≡ exchanged k m l = q ∙ ap (exchanged k m) (to-end s at) in (
+      omega arith,
+      (λ i. take (at + m) (past-end s p at i) ++ rot k′ (drop (at + m) (past-end s p at i)))
+          ∙ onward s p at m k′ (omega arith)
+          ∙ ap (λ (r : List ℕ). take at s ++ r) ((λ i. take m (p-is i) ++ rot (eq i) (drop m (p-is i))) ∙ far l k m (b .first) all)
+          ∙ e,
+    )
+step s p want at k k′ m h b pos q e (inr (more, eq)) =
+    let l : List ℕ = drop at s in
+    let same : m ≡ k = le-antisymm (b .first) more in
+    let p-is : p ≡ exchanged k k l = q ∙ (λ i. exchanged k (same i) (to-end s at i)) in (
+      closes at k m k′ (length s) same eq h (b .second),
+      (λ i. take (at + m) (past-end s p at i) ++ rot k′ (drop (at + m) (past-end s p at i)))
+          ∙ onward s p at m k′ (omega arith)
+          ∙ ap (λ (r : List ℕ). take at s ++ r) ((λ i. take (same i) (p-is i) ++ rot (eq i) (drop (same i) (p-is i))) ∙ near l k (twice k m (length l) same (rw length-drop (b .second))))
+          ∙ e,
+    )

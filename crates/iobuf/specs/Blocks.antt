@@ -8,8 +8,9 @@ use lib.ListN.{take, drop}
 unfoldable pub exchanged : ℕ → ℕ → List ℕ → List ℕ
 exchanged k m bytes = take m (drop k bytes) ++ (drop m (take k bytes) ++ (take m bytes ++ drop (k + m) bytes))
 
--- m is the block to exchange where n bytes turn left by k: the whole shorter side, or nothing, which only a side of at most 512 bytes allows
+-- m bytes are the block to exchange where n bytes turn left by k: the whole of the shorter side, or nothing, which leaves a side of at most 512 bytes
 pub record Block (n k m : ℕ) : Type 0 where
-  pub within : m ≤ min k (n - k)
-  pub whole : 0 < m → m ≡ min k (n - k)
+  pub first : m ≤ k
+  pub second : k + m ≤ n
+  pub whole : 0 < m → m < k → k + m ≡ n
   pub left : min k (n - k) ≤ m + 512
