@@ -33,7 +33,7 @@ left-hop l d k at c h e =
     (λ i. (front i ++ take c (moved i)) ++ past i) ∙ ap (λ (r : List ℕ). r ++ drop (at + c) l) (sym (take-add at c (drop k l)))
 
 -- the c bytes from e on, cut from either side
-window : (e c : ℕ) (l : List ℕ) → e ≤ length l → take c (drop e l) ≡ drop e (take (e + c) l)
+pub window : (e c : ℕ) (l : List ℕ) → e ≤ length l → take c (drop e l) ≡ drop e (take (e + c) l)
 window e c l h = sym (ap (drop e) (take-add e c l) ∙ drop-at (take e l) (take c (drop e l)) e (length-take-le e l h))
 
 -- a hop to the right, from e to e + k, takes the j bytes moved so far to c bytes more
