@@ -2,16 +2,15 @@
 -- at the two ends of a stretch.
 use mathlib.Core.Path.{_≡_, refl, sym, ap, _∙_, subst}
 use mathlib.Core.Logic.{_≢_, _⊎_, inl, inr, ⊎-elim}
-use mathlib.Core.Bool.{Bool, true, false}
+use mathlib.Core.Bool.{Bool}
 use mathlib.Core.List.{List, [], _∷_, _++_, append-assoc, append-nil}
-use Prim.Native.Nat.{ℕ, zero, suc, _+_, _-_, _*_, _≤_, _<_, min}
+use Prim.Native.Nat.{ℕ, _+_, _-_, _*_, _≤_, _<_, min}
 use native.Mathlib.Nat.{suc-mul, mul-le-mul-right, lt-of-not-le}
 use native.Mathlib.Decide.{decLe, decLt}
 use native.Mathlib.Omega.{arith}
-use lib.Dec.{leb}
 use lib.ListN.{length, getD, take, drop, length-append, length-take, length-drop, take-append-drop, drop-of-length-le, List·getD-append}
 use lib.Seq.{length-take-le, take-all, take-append-seam, drop-append-seam, take-append-le, drop-append-le, getD-append-add, getD-take, getD-drop, take-take, drop-drop, take-add, take-at, drop-at}
-use borrow.Author.Tests.{le-leb, lt-leb, leb-true, leb-false}
+use borrow.Author.Tests.{le-leb, lt-leb}
 use Rattle.layout.specs.Pick.{pick}
 use Rattle.iobuf.specs.Turn.{turned, stretch, withStretch, turnedIn}
 use Rattle.iobuf.specs.TurnLaws.{TurnLaws, Fits, turns, sumOf}
@@ -153,7 +152,7 @@ filled-own : (capacity b : ℕ) (pool : List ℕ) → withStretch capacity b (st
 unfolding withStretch stretch
 filled-own capacity b pool =
     ap (λ (r : List ℕ). take (b * capacity) pool ++ r)
-      (ap (λ (r : List ℕ). stretch capacity b pool ++ r) (sym (drop-drop capacity (b * capacity) pool)) ∙ take-append-drop capacity (drop (b * capacity) pool))
+    (ap (λ (r : List ℕ). stretch capacity b pool ++ r) (sym (drop-drop capacity (b * capacity) pool)) ∙ take-append-drop capacity (drop (b * capacity) pool))
     ∙ take-append-drop (b * capacity) pool
 
 filled-twice : (capacity b : ℕ) (bytes bytes′ pool : List ℕ) → Fits capacity b pool → length bytes ≡ capacity
@@ -178,16 +177,16 @@ stretch-other capacity b b′ bytes pool h e ne =
     let w : List ℕ = withStretch capacity b bytes pool in
     ⊎-elim
     (λ below.
-      let end : y + capacity ≤ x = apart capacity b′ b below in
-      let long : length w ≡ length pool = filled-length capacity b bytes pool h e in
-      window y capacity w (omega arith) ∙ ap (drop y) (filled-before capacity b (y + capacity) bytes pool h end) ∙ sym (window y capacity pool (omega arith)))
+    let end : y + capacity ≤ x = apart capacity b′ b below in
+    let long : length w ≡ length pool = filled-length capacity b bytes pool h e in
+    window y capacity w (omega arith) ∙ ap (drop y) (filled-before capacity b (y + capacity) bytes pool h end) ∙ sym (window y capacity pool (omega arith)))
     (λ above.
-      let start : x + capacity ≤ y = apart capacity b b′ above in
-      let on : x + capacity + (y - (x + capacity)) ≡ y = omega arith in
-      ap (take capacity)
-      (ap (λ (m : ℕ). drop m w) (sym on) ∙ sym (drop-drop (y - (x + capacity)) (x + capacity) w)
-        ∙ ap (drop (y - (x + capacity))) (filled-past capacity b bytes pool h e)
-        ∙ drop-drop (y - (x + capacity)) (x + capacity) pool ∙ ap (λ (m : ℕ). drop m pool) on))
+    let start : x + capacity ≤ y = apart capacity b b′ above in
+    let on : x + capacity + (y - (x + capacity)) ≡ y = omega arith in
+    ap (take capacity)
+    (ap (λ (m : ℕ). drop m w) (sym on) ∙ sym (drop-drop (y - (x + capacity)) (x + capacity) w)
+    ∙ ap (drop (y - (x + capacity))) (filled-past capacity b bytes pool h e)
+    ∙ drop-drop (y - (x + capacity)) (x + capacity) pool ∙ ap (λ (m : ℕ). drop m pool) on))
     (below-above b′ b ne)
 
 -- ---- turns in a pool
@@ -225,8 +224,8 @@ pub turned-empty : (capacity b n k : ℕ) (pool : List ℕ) → capacity ≡ 0 �
 turned-empty capacity b n k pool z =
     ⊎-elim
     (λ h.
-      let long : length (stretch capacity b pool) ≡ 0 = stretch-length capacity b pool h ∙ z in
-      turned-in capacity b n k pool h ∙ ap (λ (r : List ℕ). withStretch capacity b r pool) (turned-all n k (stretch capacity b pool) (omega arith)) ∙ filled-own capacity b pool)
+    let long : length (stretch capacity b pool) ≡ 0 = stretch-length capacity b pool h ∙ z in
+    turned-in capacity b n k pool h ∙ ap (λ (r : List ℕ). withStretch capacity b r pool) (turned-all n k (stretch capacity b pool) (omega arith)) ∙ filled-own capacity b pool)
     (turned-out capacity b n k pool) (in-or-out capacity b pool)
 
 pub turn-laws : TurnLaws

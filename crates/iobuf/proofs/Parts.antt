@@ -1,13 +1,13 @@
 -- The equations of lists that the steps of a turn in place come down to: a list is cut into its blocks, and each side is those blocks in order.
-use mathlib.Core.Path.{_≡_, refl, sym, ap, _∙_}
+use mathlib.Core.Path.{_≡_, sym, ap, _∙_}
 use mathlib.Core.Logic.{_⊎_, inl, inr}
 use mathlib.Core.List.{List, [], _∷_, _++_, append-assoc, append-nil}
-use Prim.Native.Nat.{ℕ, zero, suc, _+_, _-_, _≤_, _<_, min}
+use Prim.Native.Nat.{ℕ, suc, _+_, _-_, _≤_, _<_}
 use native.Mathlib.Nat.{le-antisymm}
 use native.Mathlib.Numerals.{add-one}
 use native.Mathlib.Omega.{arith}
 use lib.ListN.{length, take, drop, getD, set, length-append, length-take, length-drop, take-append-drop, drop-of-length-le}
-use lib.Seq.{length-take-le, take-all, take-suc, drop-cons, take-append-le, drop-append-le, getD-take, getD-drop, take-take, drop-drop, take-add, set-at, take-at, drop-at, getD-at, paste, slice-empty, slice-cons, length-slice}
+use lib.Seq.{length-take-le, take-all, take-suc, drop-cons, take-append-le, getD-drop, take-take, drop-drop, take-add, set-at, take-at, drop-at, getD-at, paste, slice-empty, slice-cons, length-slice}
 use Rattle.iobuf.specs.Blocks.{exchanged, Block}
 
 -- a copy through `held`: h is what it held before and h₁ what it holds between, p is the place that was copied to
@@ -44,16 +44,16 @@ right-hop l d k e c j h q =
     let tail : List ℕ = take j (drop (e + c) l) in
     let long : length head ≡ (e + c) + k = length-take-le ((e + c) + k) l h in
     let same : (n : ℕ) → n ≤ (e + c) + k → take n d ≡ take n l =
-      λ n b. ap (take n) q ∙ take-append-le n head tail (omega arith) ∙ take-take n ((e + c) + k) l b in
+    λ n b. ap (take n) q ∙ take-append-le n head tail (omega arith) ∙ take-take n ((e + c) + k) l b in
     let within : length d ≡ (e + c) + k + length tail = ap length q ∙ length-append head tail ∙ ap (λ (n : ℕ). n + length tail) long in
     let piece : take c (drop e d) ≡ take c (drop e l) =
-      window e c d (omega arith) ∙ ap (drop e) (same (e + c) (omega arith)) ∙ sym (window e c l (omega arith)) in
+    window e c d (omega arith) ∙ ap (drop e) (same (e + c) (omega arith)) ∙ sym (window e c l (omega arith)) in
     let at : e + k + c ≡ (e + c) + k = omega arith in
     let past : drop (e + k + c) d ≡ tail = ap (λ (n : ℕ). drop n d) at ∙ ap (drop ((e + c) + k)) q ∙ drop-at head tail ((e + c) + k) long in
     (λ i. (same (e + k) (omega arith) i ++ piece i) ++ past i)
     ∙ append-assoc (take (e + k) l) (take c (drop e l)) tail
     ∙ ap (λ (r : List ℕ). take (e + k) l ++ r)
-        (ap (λ (r : List ℕ). take c (drop e l) ++ take j r) (sym (drop-drop c e l)) ∙ sym (take-add c j (drop e l)))
+    (ap (λ (r : List ℕ). take c (drop e l) ++ take j r) (sym (drop-drop c e l)) ∙ sym (take-add c j (drop e l)))
 
 -- two bytes of a list exchange places
 swap-two : (p m z : List ℕ) (x y i j : ℕ) → length p ≡ i → length (p ++ (x ∷ m)) ≡ j
@@ -84,10 +84,10 @@ exchange-next l d k i below within e =
     let ri : length r ≡ i = length-take-le i l (omega arith) in
     let j : length (p ++ (x ∷ (q ++ r))) ≡ k + i = simp length-append (omega arith) in
     let parts : d ≡ p ++ (x ∷ ((q ++ r) ++ (y ∷ z))) =
-      e ∙ (λ t. p ++ (slice-cons i k l 0 below (omega arith) t ++ (r ++ drop-cons l (k + i) 0 within t)))
-      ∙ ap (λ (w : List ℕ). p ++ (x ∷ w)) (sym (append-assoc q r (y ∷ z))) in
+    e ∙ (λ t. p ++ (slice-cons i k l 0 below (omega arith) t ++ (r ++ drop-cons l (k + i) 0 within t)))
+    ∙ ap (λ (w : List ℕ). p ++ (x ∷ w)) (sym (append-assoc q r (y ∷ z))) in
     let more₁ : take (i + 1) (drop k l) ≡ p ++ (y ∷ []) =
-      ap (λ (n : ℕ). take n (drop k l)) (add-one i) ∙ take-suc (drop k l) i 0 (simp length-drop (omega arith)) ∙ ap (λ (b : ℕ). p ++ (b ∷ [])) (getD-drop k l i 0) in
+    ap (λ (n : ℕ). take n (drop k l)) (add-one i) ∙ take-suc (drop k l) i 0 (simp length-drop (omega arith)) ∙ ap (λ (b : ℕ). p ++ (b ∷ [])) (getD-drop k l i 0) in
     let more₂ : drop (i + 1) (take k l) ≡ q = ap (λ (n : ℕ). drop n (take k l)) (add-one i) in
     let more₃ : take (i + 1) l ≡ r ++ (x ∷ []) = ap (λ (n : ℕ). take n l) (add-one i) ∙ take-suc l i 0 (omega arith) in
     let next : k + (i + 1) ≡ suc (k + i) = omega arith in
@@ -130,8 +130,8 @@ put-before l s p k h e q =
     let back : length l - (length l - k) ≡ k = omega arith in
     (λ i. q i ++ drop (length l - k) (e i))
     ∙ ap (λ (r : List ℕ). drop k l ++ r)
-        (drop-at (take (length l - k) l) (take (length l - (length l - k)) l) (length l - k) (length-take-le (length l - k) l (omega arith))
-          ∙ ap (λ (n : ℕ). take n l) back)
+    (drop-at (take (length l - k) l) (take (length l - (length l - k)) l) (length l - k) (length-take-le (length l - k) l (omega arith))
+    ∙ ap (λ (n : ℕ). take n l) back)
 
 -- once the front has been exchanged with the block at k it holds what belongs there, and the rest is cut as it came
 exchanged-front : (l : List ℕ) (k m : ℕ) → k + m ≤ length l → take m (exchanged k m l) ≡ take m (drop k l)
@@ -163,7 +163,7 @@ far l k m b h =
     let front : take m (exchanged k m l) ≡ drop k l = exchanged-front l k m (omega arith) ∙ take-all m (drop k l) (simp length-drop (omega arith)) in
     let none : drop (k + m) l ≡ [] = drop-of-length-le l {i = k + m} (omega arith) in
     let rest : drop m (exchanged k m l) ≡ q ++ a =
-      exchanged-rest l k m (omega arith) ∙ ap (λ (r : List ℕ). q ++ (a ++ r)) none ∙ ap (λ (r : List ℕ). q ++ r) (append-nil a) in
+    exchanged-rest l k m (omega arith) ∙ ap (λ (r : List ℕ). q ++ (a ++ r)) none ∙ ap (λ (r : List ℕ). q ++ r) (append-nil a) in
     (λ i. front i ++ rot (k - m) (rest i))
     ∙ (λ i. drop k l ++ (drop-at q a (k - m) long i ++ take-at q a (k - m) long i))
     ∙ ap (λ (r : List ℕ). drop k l ++ r) (ap (λ (r : List ℕ). r ++ q) (sym (take-take m k l b)) ∙ take-append-drop m (take k l))
@@ -174,10 +174,11 @@ pub onward : (s p : List ℕ) (at m k : ℕ) → at ≤ length s
 onward s p at m k h =
     let long : length (take at s) ≡ at = length-take-le at s h in
     let front : take (at + m) (take at s ++ p) ≡ take at s ++ take m p =
-      take-add at m (take at s ++ p) ∙ (λ i. take-at (take at s) p at long i ++ take m (drop-at (take at s) p at long i)) in
+    take-add at m (take at s ++ p) ∙ (λ i. take-at (take at s) p at long i ++ take m (drop-at (take at s) p at long i)) in
     let rest : drop (at + m) (take at s ++ p) ≡ drop m p = sym (drop-drop m at (take at s ++ p)) ∙ ap (drop m) (drop-at (take at s) p at long) in
     (λ i. front i ++ rot k (rest i)) ∙ append-assoc (take at s) (take m p) (rot k (drop m p))
 
+-- where the block is the whole first side, the amount is kept and what is left has room for it
 closes : (at k m k′ n : ℕ) → m ≡ k → k′ ≡ k → at + k ≤ n → k + m ≤ n - at → (at + m) + k′ ≤ n
 closes at k m k′ n e f h b = omega arith
 
@@ -188,7 +189,7 @@ twice k m n e h = omega arith
 pub step : (s p want : List ℕ) (at k k′ m : ℕ) → at + k ≤ length s → Block (length s - at) k m → 0 < m
     → p ≡ exchanged k m (take (length s - at) (drop at s)) → take at s ++ rot k (drop at s) ≡ want → ((m < k) × (k′ ≡ k - m)) ⊎ ((k ≤ m) × (k′ ≡ k))
     → ((at + m) + k′ ≤ length s)
-      × (take (at + m) (take at s ++ (p ++ drop (length s - at) (drop at s))) ++ rot k′ (drop (at + m) (take at s ++ (p ++ drop (length s - at) (drop at s)))) ≡ want)
+    × (take (at + m) (take at s ++ (p ++ drop (length s - at) (drop at s))) ++ rot k′ (drop (at + m) (take at s ++ (p ++ drop (length s - at) (drop at s)))) ≡ want)
 step s p want at k k′ m h b pos q e (inl (less, eq)) =
     let l : List ℕ = drop at s in
     let all : k + m ≡ length l = b .whole pos less ∙ sym (length-drop at s) in

@@ -1,6 +1,6 @@
 -- The steps of a turn in place: which blocks a step exchanges, and how many bytes a block has.
-use mathlib.Core.List.{List, _++_}
 use mathlib.Core.Path.{_≡_}
+use mathlib.Core.List.{List, _++_}
 use Prim.Native.Nat.{ℕ, _+_, _-_, _≤_, _<_, min}
 use lib.ListN.{take, drop}
 

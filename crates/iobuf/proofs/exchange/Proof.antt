@@ -1,19 +1,14 @@
 -- `iobuf::exchange` meets its contract: before each turn the first i bytes of the two blocks have been exchanged. The measure is what is left of a block.
-use native.Mathlib.Nat.{add-zero}
-use lib.ListN.{take-append-drop}
-use Rattle.iobuf.proofs.Parts.{exchange-next}
-use Rattle.iobuf.specs.Blocks.{exchanged}
 use mathlib.Core.Path.{_≡_, refl, sym, ap, _∙_}
-use mathlib.Core.List.{List, [], _∷_, _++_}
-use Prim.Native.Nat.{ℕ, zero, suc, _+_, _-_, _≤_, _<_, min}
-use native.Mathlib.Numerals.{add-one}
+use mathlib.Core.List.{_++_}
+use Prim.Native.Nat.{ℕ, _-_, _≤_}
+use native.Mathlib.Nat.{add-zero}
 use native.Mathlib.Omega.{arith}
-use borrow.Author.Needs.{needs}
-use lib.ListN.{length, take, drop, getD, set, length-set}
+use lib.ListN.{take-append-drop, length, take, drop, length-set}
+use Rattle.iobuf.specs.Blocks.{exchanged}
+use Rattle.iobuf.proofs.Parts.{exchange-next}
 use Rattle.iobuf.proofs.exchange.Statement.{statement}
 use Rattle.iobuf.proofs.exchange.Tie as tie
-use Rattle.iobuf.proofs.exchange.Reads as reads
-use Rattle.iobuf.proofs.exchange.Lts as lts
 
 abbrev Inv-loop : tie.InvT-loop
 Inv-loop s₀ k m i₀ s i = (i ≤ m) × (length s ≡ length s₀) × (s ≡ exchanged k i s₀)
@@ -21,7 +16,6 @@ Inv-loop s₀ k m i₀ s i = (i ≤ m) × (length s ≡ length s₀) × (s ≡ e
 abbrev μ-loop : tie.MeasureT-loop
 μ-loop s₀ k m i₀ s i = m - i
 
--- src/lib.rt:103:5
 loop-holds : tie.Need-loop-holds Inv-loop μ-loop
 unfolding exchanged
 loop-holds c =
@@ -29,39 +23,30 @@ loop-holds c =
     let k = c .args .k in
     (omega arith, refl, sym (ap (λ (n : ℕ). take k l ++ drop n l) (add-zero k) ∙ take-append-drop k l))
 
--- src/lib.rt:104:21
 slice-read-front : tie.Need-slice-read-front Inv-loop μ-loop
 slice-read-front c = omega arith
 
--- src/lib.rt:105:22
 add-back : tie.Need-add-back Inv-loop μ-loop
 add-back c = omega arith
 
--- src/lib.rt:105:20
 slice-read-back : tie.Need-slice-read-back Inv-loop μ-loop
 slice-read-back c = omega arith
 
--- src/lib.rt:106:9
 slice-write-s : tie.Need-slice-write-s Inv-loop μ-loop
 slice-write-s c = omega arith
 
--- src/lib.rt:107:11
 add-s : tie.Need-add-s Inv-loop μ-loop
 add-s c = omega arith
 
--- src/lib.rt:107:9
 slice-write-s-2 : tie.Need-slice-write-s-2 Inv-loop μ-loop
 slice-write-s-2 c = simp length-set (omega arith)
 
--- src/lib.rt:108:9
 add-i : tie.Need-add-i Inv-loop μ-loop
 add-i c = omega arith
 
--- src/lib.rt:103:5
 loop-less : tie.Need-loop-less Inv-loop μ-loop
 loop-less c = omega arith
 
--- src/lib.rt:103:5
 loop-again : tie.Need-loop-again Inv-loop μ-loop
 loop-again c =
     let head = c .before .before .before in
@@ -71,11 +56,9 @@ loop-again c =
       exchange-next (start .args .s .now) (head .loop .s) (start .args .k) (head .loop .i) (omega arith) (omega arith) (head .loop .inv .2),
     )
 
--- src/lib.rt:98:1
 same-length : tie.Need-same-length Inv-loop μ-loop
 same-length c = c .before .loop .inv .1
 
--- src/lib.rt:98:1
 returns : tie.Need-returns Inv-loop μ-loop
 returns c =
     let head = c .before in

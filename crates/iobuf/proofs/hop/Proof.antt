@@ -1,61 +1,45 @@
 -- `iobuf::hop` meets its contract: what the second copy puts down is what the first took up.
-use Rattle.iobuf.proofs.Parts.{hopped}
 use borrow.Author.Needs.{needs}
+use Rattle.iobuf.proofs.Parts.{hopped}
 use Rattle.iobuf.proofs.hop.Statement.{statement}
 use Rattle.iobuf.proofs.hop.Tie as tie
-use Rattle.iobuf.proofs.hop.Reads as reads
-use Rattle.iobuf.proofs.hop.Lts as lts
-use Rattle.iobuf.proofs.copy.Reads as copy-reads
 
--- src/lib.rt:31:20
 add-from-end : tie.Need-add-from-end
 add-from-end c = search needs
 
--- src/lib.rt:32:10
 sub-copy : tie.Need-sub-copy
 sub-copy c = search needs
 
--- src/lib.rt:32:10
 part-copy-start : tie.Need-part-copy-start
 part-copy-start c = search needs
 
--- src/lib.rt:32:10
 part-copy-end : tie.Need-part-copy-end
 part-copy-end c = search needs
 
--- src/lib.rt:32:5
 copy-requires : tie.Need-copy-requires
 copy-requires c κs = search needs
 
--- src/lib.rt:33:18
 add-to-end : tie.Need-add-to-end
 add-to-end c = search needs
 
--- src/lib.rt:34:16
 sub-copy-2 : tie.Need-sub-copy-2
 sub-copy-2 c = search needs
 
--- src/lib.rt:34:16
 part-copy-start-2 : tie.Need-part-copy-start-2
 part-copy-start-2 c = search needs
 
--- src/lib.rt:34:16
 part-copy-end-2 : tie.Need-part-copy-end-2
 part-copy-end-2 c = search needs
 
--- src/lib.rt:34:5
 copy-requires-2 : tie.Need-copy-requires-2
 copy-requires-2 c κs = search needs
 
--- src/lib.rt:27:1
 same-length : tie.Need-same-length
 same-length c = search needs
 
--- src/lib.rt:27:1
 same-length-2 : tie.Need-same-length-2
 same-length-2 c = search needs
 
--- src/lib.rt:27:1
 returns : tie.Need-returns
 returns c =
     let second = c .before .before in

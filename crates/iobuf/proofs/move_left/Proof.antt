@@ -1,21 +1,14 @@
 -- `iobuf::move_left` meets its contract: before each turn the first `at` of the bytes from k on lie at the front, and from `at` on all is as it was.
 -- The measure is what is left to move.
-use lib.ListN.{length-drop}
+use mathlib.Core.Path.{_≡_, refl, sym, ap, _∙_}
+use mathlib.Core.List.{List, _++_}
+use Prim.Native.Nat.{ℕ, _+_, _-_, _≤_}
+use native.Mathlib.Omega.{arith}
+use lib.ListN.{length-drop, length, take, drop}
 use lib.Seq.{length-take-le, length-front, take-all, paste}
 use Rattle.iobuf.proofs.Parts.{left-hop}
-use mathlib.Core.Path.{_≡_, refl, sym, ap, _∙_}
-use mathlib.Core.List.{List, [], _∷_, _++_}
-use Prim.Native.Nat.{ℕ, zero, suc, _+_, _-_, _≤_, _<_, min}
-use native.Mathlib.Numerals.{add-one}
-use native.Mathlib.Omega.{arith}
-use borrow.Author.Needs.{needs}
-use lib.ListN.{length, take, drop, getD, set, length-set}
 use Rattle.iobuf.proofs.move_left.Statement.{statement}
 use Rattle.iobuf.proofs.move_left.Tie as tie
-use Rattle.iobuf.proofs.move_left.Reads as reads
-use Rattle.iobuf.proofs.move_left.Lts as lts
-use Rattle.iobuf.proofs.hop.Reads as hop-reads
-use Rattle.iobuf.proofs.lesser.Reads as lesser-reads
 
 abbrev Inv-loop : tie.InvT-loop
 Inv-loop s₀ held₀ k n at₀ s held at = (at ≤ n) × (length held ≡ length held₀) × (length s ≡ length s₀) × (s ≡ take at (drop k s₀) ++ drop at s₀)
@@ -23,35 +16,27 @@ Inv-loop s₀ held₀ k n at₀ s held at = (at ≤ n) × (length held ≡ lengt
 abbrev μ-loop : tie.MeasureT-loop
 μ-loop s₀ held₀ k n at₀ s held at = n - at
 
--- src/lib.rt:49:13
 sub-n : tie.Need-sub-n Inv-loop μ-loop
 sub-n c = omega arith
 
--- src/lib.rt:51:5
 loop-holds : tie.Need-loop-holds Inv-loop μ-loop
 loop-holds c = (omega arith, refl, refl, refl)
 
--- src/lib.rt:52:40
 sub-lesser : tie.Need-sub-lesser Inv-loop μ-loop
 sub-lesser c = omega arith
 
--- src/lib.rt:52:13
 lesser-requires : tie.Need-lesser-requires Inv-loop μ-loop
 lesser-requires c κs = omega arith
 
--- src/lib.rt:53:16
 slice-relend-prefix-hop : tie.Need-slice-relend-prefix-hop Inv-loop μ-loop
 slice-relend-prefix-hop c = omega arith
 
--- src/lib.rt:53:16
 slice-aggregate-hop : tie.Need-slice-aggregate-hop Inv-loop μ-loop
 slice-aggregate-hop c = sym (length-take-le (c .before .before .lesser .result) (c .before .before .before .before .loop .held) (omega arith))
 
--- src/lib.rt:53:36
 add-hop : tie.Need-add-hop Inv-loop μ-loop
 add-hop c = omega arith
 
--- src/lib.rt:53:9
 hop-requires : tie.Need-hop-requires Inv-loop μ-loop
 hop-requires c κs =
     let count = c .before .before .lesser .result in
@@ -59,15 +44,12 @@ hop-requires c κs =
     let part : length (take count held) ≡ count = length-take-le count held (omega arith) in
     omega arith
 
--- src/lib.rt:54:9
 add-at : tie.Need-add-at Inv-loop μ-loop
 add-at c = omega arith
 
--- src/lib.rt:51:5
 loop-less : tie.Need-loop-less Inv-loop μ-loop
 loop-less c = omega arith
 
--- src/lib.rt:51:5
 loop-again : tie.Need-loop-again Inv-loop μ-loop
 loop-again c =
     let hopped = c .before .before .before .before in
@@ -78,24 +60,20 @@ loop-again c =
     let held = head .loop .held in
     let count = lesser .lesser .result in
     let part : length (take count held) ≡ count = length-take-le count held (omega arith) in
-    let at = head .loop .at in
-    (
+    let at = head .loop .at in (
       omega arith,
       length-front held (hopped .hop .last .1 .0) count (hopped .hop .kept .1 .0) ∙ head .loop .inv .1,
       hopped .hop .kept .0 ∙ head .loop .inv .2,
       hopped .hop .ensures ∙ ap (paste (head .loop .s) at (drop (at + start .args .k) (head .loop .s))) part
-            ∙ left-hop l (head .loop .s) (start .args .k) at count (omega arith) (head .loop .inv .3),
+          ∙ left-hop l (head .loop .s) (start .args .k) at count (omega arith) (head .loop .inv .3),
     )
 
--- src/lib.rt:45:1
 same-length : tie.Need-same-length Inv-loop μ-loop
 same-length c = c .before .loop .inv .2
 
--- src/lib.rt:45:1
 same-length-2 : tie.Need-same-length-2 Inv-loop μ-loop
 same-length-2 c = c .before .loop .inv .1
 
--- src/lib.rt:45:1
 returns : tie.Need-returns Inv-loop μ-loop
 returns c =
     let head = c .before in

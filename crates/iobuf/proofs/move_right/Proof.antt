@@ -1,21 +1,14 @@
 -- `iobuf::move_right` meets its contract: before each turn the bytes from `end` on have been moved, and before end + k all is as it was.
 -- The measure is `end`.
-use mathlib.Core.List.{append-nil}
+use mathlib.Core.Path.{_≡_, refl, sym, ap, _∙_}
+use mathlib.Core.List.{append-nil, _++_}
+use Prim.Native.Nat.{ℕ, _+_, _-_, _≤_}
+use native.Mathlib.Omega.{arith}
+use lib.ListN.{length, take, drop}
 use lib.Seq.{length-take-le, length-front, take-length, paste}
 use Rattle.iobuf.proofs.Parts.{right-hop}
-use mathlib.Core.Path.{_≡_, refl, sym, ap, _∙_}
-use mathlib.Core.List.{List, [], _∷_, _++_}
-use Prim.Native.Nat.{ℕ, zero, suc, _+_, _-_, _≤_, _<_, min}
-use native.Mathlib.Numerals.{add-one}
-use native.Mathlib.Omega.{arith}
-use borrow.Author.Needs.{needs}
-use lib.ListN.{length, take, drop, getD, set, length-set}
 use Rattle.iobuf.proofs.move_right.Statement.{statement}
 use Rattle.iobuf.proofs.move_right.Tie as tie
-use Rattle.iobuf.proofs.move_right.Reads as reads
-use Rattle.iobuf.proofs.move_right.Lts as lts
-use Rattle.iobuf.proofs.hop.Reads as hop-reads
-use Rattle.iobuf.proofs.lesser.Reads as lesser-reads
 
 abbrev Inv-loop : tie.InvT-loop
 Inv-loop s₀ held₀ k end₀ s held end = (end ≤ end₀) × (length held ≡ length held₀) × (length s ≡ length s₀) × (s ≡ take (end + k) s₀ ++ take (end₀ - end) (drop end s₀))
@@ -23,11 +16,9 @@ Inv-loop s₀ held₀ k end₀ s held end = (end ≤ end₀) × (length held ≡
 abbrev μ-loop : tie.MeasureT-loop
 μ-loop s₀ held₀ k end₀ s held end = end
 
--- src/lib.rt:63:19
 sub-end : tie.Need-sub-end Inv-loop μ-loop
 sub-end c = omega arith
 
--- src/lib.rt:64:5
 loop-holds : tie.Need-loop-holds Inv-loop μ-loop
 loop-holds c =
     let l = c .before .before .args .s .now in
@@ -36,27 +27,21 @@ loop-holds c =
     let none : length l - k - (length l - k) ≡ 0 = omega arith in
     (omega arith, refl, refl, sym ((λ i. take (whole i) l ++ take (none i) (drop (length l - k) l)) ∙ append-nil (take (length l) l) ∙ take-length l))
 
--- src/lib.rt:65:13
 lesser-requires : tie.Need-lesser-requires Inv-loop μ-loop
 lesser-requires c κs = omega arith
 
--- src/lib.rt:66:9
 sub-end-2 : tie.Need-sub-end-2 Inv-loop μ-loop
 sub-end-2 c = omega arith
 
--- src/lib.rt:67:16
 slice-relend-prefix-hop : tie.Need-slice-relend-prefix-hop Inv-loop μ-loop
 slice-relend-prefix-hop c = omega arith
 
--- src/lib.rt:67:16
 slice-aggregate-hop : tie.Need-slice-aggregate-hop Inv-loop μ-loop
 slice-aggregate-hop c = sym (length-take-le (c .before .before .lesser .result) (c .before .before .before .before .loop .held) (omega arith))
 
--- src/lib.rt:67:41
 add-hop : tie.Need-add-hop Inv-loop μ-loop
 add-hop c = omega arith
 
--- src/lib.rt:67:9
 hop-requires : tie.Need-hop-requires Inv-loop μ-loop
 hop-requires c κs =
     let count = c .before .before .lesser .result in
@@ -64,11 +49,9 @@ hop-requires c κs =
     let part : length (take count held) ≡ count = length-take-le count held (omega arith) in
     omega arith
 
--- src/lib.rt:64:5
 loop-less : tie.Need-loop-less Inv-loop μ-loop
 loop-less c = omega arith
 
--- src/lib.rt:64:5
 loop-again : tie.Need-loop-again Inv-loop μ-loop
 loop-again c =
     let hopped = c .before .before .before .before in
@@ -83,26 +66,22 @@ loop-again c =
     let end = head .loop .end - count in
     let j = length l - k - head .loop .end in
     let before : head .loop .end ≡ end + count = omega arith in
-    let more : count + j ≡ length l - k - end = omega arith in
-    (
+    let more : count + j ≡ length l - k - end = omega arith in (
       omega arith,
       length-front held (hopped .hop .last .1 .0) count (hopped .hop .kept .1 .0) ∙ head .loop .inv .1,
       hopped .hop .kept .0 ∙ head .loop .inv .2,
       hopped .hop .ensures ∙ ap (paste (head .loop .s) (end + k) (drop end (head .loop .s))) part
-            ∙ right-hop l (head .loop .s) k end count j (omega arith)
-              (head .loop .inv .3 ∙ (λ i. take (before i + k) l ++ take j (drop (before i) l)))
-            ∙ ap (λ (n : ℕ). take (end + k) l ++ take n (drop end l)) more,
+          ∙ right-hop l (head .loop .s) k end count j (omega arith)
+          (head .loop .inv .3 ∙ (λ i. take (before i + k) l ++ take j (drop (before i) l)))
+          ∙ ap (λ (n : ℕ). take (end + k) l ++ take n (drop end l)) more,
     )
 
--- src/lib.rt:59:1
 same-length : tie.Need-same-length Inv-loop μ-loop
 same-length c = c .before .loop .inv .2
 
--- src/lib.rt:59:1
 same-length-2 : tie.Need-same-length-2 Inv-loop μ-loop
 same-length-2 c = c .before .loop .inv .1
 
--- src/lib.rt:59:1
 returns : tie.Need-returns Inv-loop μ-loop
 returns c =
     let head = c .before in

@@ -1,23 +1,17 @@
 -- `iobuf::rotate` meets its contract: before each turn the bytes before `at` are in place, and the rest turned left by k gives what is wanted.
 -- The measure is what is left of the bytes.
-use mathlib.Core.Path.{subst}
+use mathlib.Core.Path.{subst, _≡_, refl, sym, ap, _∙_}
 use mathlib.Core.Logic.{⊎-elim, inl, inr}
-use borrow.Rule.Slice.PartMut.{same-len-mid}
-use Rattle.iobuf.proofs.Parts.{rot, to-end, end-long, past-end, step}
-use mathlib.Core.Path.{_≡_, refl, sym, ap, _∙_}
-use mathlib.Core.List.{List, [], _∷_, _++_}
-use Prim.Native.Nat.{ℕ, zero, suc, _+_, _-_, _≤_, _<_, min}
+use mathlib.Core.List.{List, _++_}
+use Prim.Native.Nat.{ℕ, _+_, _-_, _≤_, _<_, min}
 use native.Mathlib.Omega.{arith}
-use borrow.Author.Needs.{needs}
 use lib.ListN.{length, take, drop}
+use borrow.Author.Needs.{needs}
+use borrow.Rule.Slice.PartMut.{same-len-mid}
 use Rattle.iobuf.specs.Blocks.{Block}
+use Rattle.iobuf.proofs.Parts.{rot, to-end, end-long, past-end, step}
 use Rattle.iobuf.proofs.rotate.Statement.{statement}
 use Rattle.iobuf.proofs.rotate.Tie as tie
-use Rattle.iobuf.proofs.rotate.Reads as reads
-use Rattle.iobuf.proofs.rotate.Lts as lts
-use Rattle.iobuf.proofs.block.Reads as block-reads
-use Rattle.iobuf.proofs.exchange.Reads as exchange-reads
-use Rattle.iobuf.proofs.shift.Reads as shift-reads
 
 abbrev Inv-loop : tie.InvT-loop
 Inv-loop s₀ by n at₀ k₀ m₀ s at k m = (n ≡ length s₀) × (length s ≡ length s₀) × (at + k ≤ length s) × Block (length s - at) k m × (take at s ++ rot k (drop at s) ≡ rot by s₀)
@@ -25,6 +19,7 @@ Inv-loop s₀ by n at₀ k₀ m₀ s at k m = (n ≡ length s₀) × (length s �
 abbrev μ-loop : tie.MeasureT-loop
 μ-loop s₀ by n at₀ k₀ m₀ s at k m = n - at
 
+-- the arithmetic of a turn: what is left has room for k, it gets less, and with no block left one side is short
 room : (at k n : ℕ) → at + k ≤ n → k ≤ n - at
 room at k n h = omega arith
 
@@ -48,52 +43,41 @@ joined c =
     (head .loop .inv .2) (head .loop .inv .3) (c .before .before .before .before .before .loop-test .taken) (c .before .before .before .exchange .ensures) (head .loop .inv .4)
     (⊎-elim (λ w. inl (w .0 .taken, w .1)) (λ w. inr (w .0 .left, w .1)) (c .if1 .came))
 
--- src/lib.rt:146:9
 block-requires : tie.Need-block-requires Inv-loop μ-loop
 block-requires c κs = search needs
 
--- src/lib.rt:147:5
 loop-holds : tie.Need-loop-holds Inv-loop μ-loop
 loop-holds c =
     let l = c .before .before .args .s .now in
     let all : length l ≡ length l - 0 = omega arith in
     (refl, refl, omega arith, subst (λ (n : ℕ). Block n (c .before .before .args .by) (c .block .result)) all (c .block .ensures), refl)
 
--- src/lib.rt:148:18
 sub-exchange : tie.Need-sub-exchange Inv-loop μ-loop
 sub-exchange c = search needs
 
--- src/lib.rt:148:18
 part-exchange-start : tie.Need-part-exchange-start Inv-loop μ-loop
 part-exchange-start c = search needs
 
--- src/lib.rt:148:18
 part-exchange-end : tie.Need-part-exchange-end Inv-loop μ-loop
 part-exchange-end c = search needs
 
--- src/lib.rt:148:9
 exchange-requires : tie.Need-exchange-requires Inv-loop μ-loop
 exchange-requires c κs = let head = c .before .before in (head .loop .inv .3 .first, rw end-long (head .loop .inv .3 .second))
 
--- src/lib.rt:149:9
 add-at : tie.Need-add-at Inv-loop μ-loop
 add-at c = search needs
 
--- src/lib.rt:151:13
 sub-k : tie.Need-sub-k Inv-loop μ-loop
 sub-k c = search needs
 
--- src/lib.rt:153:19
 sub-block : tie.Need-sub-block Inv-loop μ-loop
 sub-block c = search needs
 
--- src/lib.rt:153:9
 block-requires-2 : tie.Need-block-requires-2 Inv-loop μ-loop
 block-requires-2 c κs =
     let head = c .before .before .before .before .before .before in
     subst (λ (n : ℕ). c .if1 .k ≤ n - (head .loop .at + head .loop .m)) (head .loop .inv .1) (room (head .loop .at + head .loop .m) (c .if1 .k) (length (head .loop .s)) (joined c .0))
 
--- src/lib.rt:147:5
 loop-less : tie.Need-loop-less Inv-loop μ-loop
 loop-less c =
     let head = c .before .before .before .before .before .before .before in
@@ -101,7 +85,6 @@ loop-less c =
     let m = head .loop .m in
     closer at m (c .before .if1 .k) _ (c .before .before .before .before .before .before .loop-test .taken) (subst (λ (n : ℕ). at + m + c .before .if1 .k ≤ n) (head .loop .inv .1) (joined (c .before) .0))
 
--- src/lib.rt:147:5
 loop-again : tie.Need-loop-again Inv-loop μ-loop
 loop-again c =
     let head = c .before .before .before .before .before .before .before in
@@ -119,19 +102,15 @@ loop-again c =
       done .1,
     )
 
--- src/lib.rt:155:11
 sub-shift : tie.Need-sub-shift Inv-loop μ-loop
 sub-shift c = search needs
 
--- src/lib.rt:155:11
 part-shift-start : tie.Need-part-shift-start Inv-loop μ-loop
 part-shift-start c = search needs
 
--- src/lib.rt:155:11
 part-shift-end : tie.Need-part-shift-end Inv-loop μ-loop
 part-shift-end c = search needs
 
--- src/lib.rt:155:5
 shift-requires : tie.Need-shift-requires Inv-loop μ-loop
 shift-requires c κs =
     let head = c .before .before in
@@ -140,14 +119,12 @@ shift-requires c κs =
     let k = head .loop .k in
     rw end-long (room at k (length s) (head .loop .inv .2), small k (head .loop .m) (length s - at) (c .before .loop-test .left) (head .loop .inv .3 .left))
 
--- src/lib.rt:139:1
 same-length : tie.Need-same-length Inv-loop μ-loop
 same-length c =
     let head = c .before .before .before .before .before in
     same-len-mid (head .loop .at) (length (head .loop .s) - head .loop .at) (head .loop .s) (c .before .before .shift .last .0) (c .before .before .shift .kept .0)
     ∙ head .loop .inv .1
 
--- src/lib.rt:139:1
 returns : tie.Need-returns Inv-loop μ-loop
 returns c =
     let shifted = c .before .before in

@@ -1,20 +1,14 @@
 -- `iobuf::shift_left` meets its contract: the k bytes that the first copy saves are those that the last one puts behind the others.
-use mathlib.Core.Path.{_≡_, refl, sym, ap, _∙_}
-use mathlib.Core.List.{List, _++_}
-use lib.Seq.{length-take-le}
-use Prim.Native.Nat.{ℕ, _-_}
+use mathlib.Core.Path.{_≡_, sym, ap, _∙_}
+use mathlib.Core.List.{_++_}
 use native.Mathlib.Omega.{arith}
 use lib.ListN.{length, take, drop, length-take, length-drop}
-use Rattle.iobuf.proofs.Parts.{front-held, put-behind}
+use lib.Seq.{length-take-le}
 use borrow.Author.Needs.{needs}
+use Rattle.iobuf.proofs.Parts.{front-held, put-behind}
 use Rattle.iobuf.proofs.shift_left.Statement.{statement}
 use Rattle.iobuf.proofs.shift_left.Tie as tie
-use Rattle.iobuf.proofs.shift_left.Reads as reads
-use Rattle.iobuf.proofs.shift_left.Lts as lts
-use Rattle.iobuf.proofs.copy.Reads as copy-reads
-use Rattle.iobuf.proofs.move_left.Reads as move-left-reads
 
--- src/lib.rt:76:16
 abbrev st : tie.After-copy → tie.Start
 st c = c .before .before .before .before .before .before
 
@@ -28,69 +22,53 @@ saved-long c = ap length (saved c) ∙ length-take-le (st c .args .k) (st c .arg
 sub-rest : tie.Need-sub-rest
 sub-rest c = search needs
 
--- src/lib.rt:77:10
 slice-reshare-prefix-copy : tie.Need-slice-reshare-prefix-copy
 slice-reshare-prefix-copy c = search needs
 
--- src/lib.rt:77:10
 slice-aggregate-copy : tie.Need-slice-aggregate-copy
 slice-aggregate-copy c = simp length-take (omega arith)
 
--- src/lib.rt:77:19
 slice-relend-prefix-copy : tie.Need-slice-relend-prefix-copy
 slice-relend-prefix-copy c = search needs
 
--- src/lib.rt:77:19
 slice-aggregate-copy-2 : tie.Need-slice-aggregate-copy-2
 slice-aggregate-copy-2 c = simp length-take (omega arith)
 
--- src/lib.rt:77:5
 copy-requires : tie.Need-copy-requires
 copy-requires c κs = simp length-take (omega arith)
 
--- src/lib.rt:78:5
 move-left-requires : tie.Need-move-left-requires
 move-left-requires c κs = search needs
 
--- src/lib.rt:79:10
 slice-reshare-prefix-copy-2 : tie.Need-slice-reshare-prefix-copy-2
 slice-reshare-prefix-copy-2 c = search needs
 
--- src/lib.rt:79:10
 slice-aggregate-copy-3 : tie.Need-slice-aggregate-copy-3
 slice-aggregate-copy-3 c = sym (saved-long (c .before .before .before .before .before .before .before .before .before .before))
 
--- src/lib.rt:79:23
 sub-copy : tie.Need-sub-copy
 sub-copy c = search needs
 
--- src/lib.rt:79:23
 part-copy-start : tie.Need-part-copy-start
 part-copy-start c = search needs
 
--- src/lib.rt:79:23
 part-copy-end : tie.Need-part-copy-end
 part-copy-end c = search needs
 
--- src/lib.rt:79:5
 copy-requires-2 : tie.Need-copy-requires-2
 copy-requires-2 c κs =
     let first = c .before .before .before .before .before .before .before .before .before .before .before in
     saved-long first ∙ simp (length-take, length-drop) (omega arith)
 
--- src/lib.rt:72:1
 same-length : tie.Need-same-length
 same-length c = search needs
 
--- src/lib.rt:72:1
 same-length-2 : tie.Need-same-length-2
 same-length-2 c = search needs
 
--- src/lib.rt:72:1
 same-length-3 : tie.Need-same-length-3
 same-length-3 c = search needs
 
--- src/lib.rt:72:1
 returns : tie.Need-returns
 returns c =
     let second = c .before .before in
