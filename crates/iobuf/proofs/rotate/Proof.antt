@@ -29,6 +29,10 @@ closer at m k n pos h = omega arith
 small : (k m n : ℕ) → m ≤ 0 → min k (n - k) ≤ m + 512 → min k (n - k) ≤ 512
 small k m n z h = omega arith
 
+-- in a turn the block has bytes
+some : (c : tie.In-loop Inv-loop μ-loop) → 0 < c .before .loop .m
+some c = omega (arith, c .loop-test .taken)
+
 -- after the exchange, where the ways of the test on k meet: `step` at what is known there
 joined : (c : tie.Joined1 Inv-loop μ-loop) →
     let head = c .before .before .before .before .before .before in
@@ -40,7 +44,7 @@ joined : (c : tie.Joined1 Inv-loop μ-loop) →
 joined c =
     let head = c .before .before .before .before .before .before in
     step (head .loop .s) (c .before .before .before .exchange .last .0) (rot (head .before .before .before .args .by) (head .before .before .before .args .s .now)) (head .loop .at) (head .loop .k) (c .if1 .k) (head .loop .m)
-    (head .loop .inv .2) (head .loop .inv .3) (c .before .before .before .before .before .loop-test .taken) (c .before .before .before .exchange .ensures) (head .loop .inv .4)
+    (head .loop .inv .2) (head .loop .inv .3) (some (c .before .before .before .before .before)) (c .before .before .before .exchange .ensures) (head .loop .inv .4)
     (⊎-elim (λ w. inl (w .0 .taken, w .1)) (λ w. inr (w .0 .left, w .1)) (c .if1 .came))
 
 block-requires : tie.Need-block-requires Inv-loop μ-loop
@@ -83,7 +87,7 @@ loop-less c =
     let head = c .before .before .before .before .before .before .before in
     let at = head .loop .at in
     let m = head .loop .m in
-    closer at m (c .before .if1 .k) _ (c .before .before .before .before .before .before .loop-test .taken) (subst (λ (n : ℕ). at + m + c .before .if1 .k ≤ n) (head .loop .inv .1) (joined (c .before) .0))
+    closer at m (c .before .if1 .k) _ (some (c .before .before .before .before .before .before)) (subst (λ (n : ℕ). at + m + c .before .if1 .k ≤ n) (head .loop .inv .1) (joined (c .before) .0))
 
 loop-again : tie.Need-loop-again Inv-loop μ-loop
 loop-again c =
