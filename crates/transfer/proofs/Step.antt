@@ -12,7 +12,8 @@ use Rattle.regionmap.specs.Map.{Map, Piece, pieces, place}
 use Rattle.regionmap.specs.Laws.{Lawful, Chain, MapLaws}
 use Rattle.iobuf.specs.Turn.{withStretch, turnedIn}
 use Rattle.transfer.specs.Transfer.{Operation, bufferIn, turnAfter, Accepted}
-use Rattle.transfer.proofs.Turned.{turned-parts, stretch-length, with-own, stretch-with, with-twice, turned-with}
+use Rattle.iobuf.proofs.Laws.{turn-laws}
+use Rattle.transfer.proofs.Turned.{turned-parts, turned-with}
 
 -- ---- the pieces left
 
@@ -69,7 +70,7 @@ lying o pool rest before = withStretch (o .capacity) (o .buffer) (rest ++ (befor
 
 module _ (o : Operation) (pool : List ℕ) (ok : Accepted o pool) where
   buffer-length : length (bufferIn o pool) ≡ o .capacity
-  buffer-length = stretch-length (o .capacity) (o .buffer) pool (ok .inPool)
+  buffer-length = turn-laws .stretch-length (o .capacity) (o .buffer) pool (ok .inPool)
 
   pub front-length : length (front o pool) ≡ o .total
   front-length = length-take-le (o .total) (bufferIn o pool) (omega (arith, buffer-length, ok .inBuffer))
@@ -79,7 +80,7 @@ module _ (o : Operation) (pool : List ℕ) (ok : Accepted o pool) where
 
   -- the pool at first
   pub lying-first : lying o pool (front o pool) [] ≡ pool
-  lying-first = rw (take-append-drop (o .total) (bufferIn o pool)) (with-own (o .capacity) (o .buffer) pool)
+  lying-first = rw (take-append-drop (o .total) (bufferIn o pool)) (turn-laws .filled-own (o .capacity) (o .buffer) pool)
 
   -- as long as the buffer
   full : (rest before : List ℕ) → length rest + length before ≡ o .total → length (rest ++ (before ++ tail o pool)) ≡ o .capacity
@@ -87,11 +88,11 @@ module _ (o : Operation) (pool : List ℕ) (ok : Accepted o pool) where
 
   -- what the buffer holds
   pub lying-buffer : (rest before : List ℕ) → length rest + length before ≡ o .total → bufferIn o (lying o pool rest before) ≡ rest ++ (before ++ tail o pool)
-  lying-buffer rest before h = stretch-with (o .capacity) (o .buffer) pool (ok .inPool) (rest ++ (before ++ tail o pool)) (full rest before h)
+  lying-buffer rest before h = turn-laws .stretch-filled (o .capacity) (o .buffer) (rest ++ (before ++ tail o pool)) pool (ok .inPool) (full rest before h)
 
   -- other bytes put there
   pub lying-with : (rest before bytes : List ℕ) → length rest + length before ≡ o .total → withStretch (o .capacity) (o .buffer) bytes (lying o pool rest before) ≡ withStretch (o .capacity) (o .buffer) bytes pool
-  lying-with rest before bytes h = with-twice (o .capacity) (o .buffer) pool (ok .inPool) (rest ++ (before ++ tail o pool)) (full rest before h) bytes
+  lying-with rest before bytes h = turn-laws .filled-twice (o .capacity) (o .buffer) (rest ++ (before ++ tail o pool)) bytes pool (ok .inPool) (full rest before h)
 
   -- the operation's bytes, a then b, turn left by a
   turned-lying : (k : ℕ) (a b x y : List ℕ) → x ≡ a ++ (b ++ tail o pool) → b ++ (a ++ tail o pool) ≡ y → length a ≡ k → length a + length b ≡ o .total
