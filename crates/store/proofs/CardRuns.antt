@@ -52,7 +52,11 @@ module _ {all : List Extent → Bool} {one : Extent → List Extent → Bool} (t
   pub ends : length xs ≤ k → true ≡ total
   ends l = sym (ap all (drop-of-length-le xs l) ∙ t .none) ∙ inv
 
-pub within : (card : ℕ) → Through (allWithin card) (λ e es. leb (e .offset + e .size) card)
+-- a run's card bytes end at an offset or before
+abbrev pub endsBy : ℕ → Extent → Bool
+endsBy offset e = leb (e .offset + e .size) offset
+
+pub within : (card : ℕ) → Through (allWithin card) (λ e es. endsBy card e)
 unfolding allWithin
 within card = record { none = refl; more = λ e es. refl }
 

@@ -6,14 +6,12 @@ use borrow.Author.Needs.{needs}
 use lib.ListN.{length, getD, length-append}
 use Rattle.regionmap.specs.Map.{extents}
 use Rattle.regionmap.specs.Words.{mapIn}
-use Rattle.model.specs.Opening.{allExtents}
-use Rattle.model.specs.Memory.{plansIn}
-use Rattle.store.proofs.CardRuns.{mapWords, rowFrom, row-step, row-end, row-all, region-count}
+use Rattle.store.proofs.CardRuns.{mapWords, row, rowFrom, row-step, row-end, row-all, region-count}
 use Rattle.store.proofs.card.run_count.Statement.{statement}
 use Rattle.store.proofs.card.run_count.Tie as tie
 
 abbrev Inv-loop : tie.InvT-loop
-Inv-loop plan regions count₀ h₀ count h = (h ≤ regions) × ((count ≤ 33 * h) × (count + length (rowFrom plan regions h) ≡ length (allExtents (plansIn regions plan))))
+Inv-loop plan regions count₀ h₀ count h = (h ≤ regions) × ((count ≤ 33 * h) × (count + length (rowFrom plan regions h) ≡ length (row plan regions)))
 
 abbrev μ-loop : tie.MeasureT-loop
 μ-loop plan regions count₀ h₀ count h = regions - h

@@ -1,7 +1,7 @@
 -- `store::card::run_end` meets its contract: a branch for each side of `pick`.
+use borrow.Author.Needs.{needs}
 use borrow.Author.Tests.{lt-ltb, le-ltb}
 use Rattle.layout.specs.Pick.{pick}
-use borrow.Author.Needs.{needs}
 use Rattle.store.proofs.card.run_end.Statement.{statement}
 use Rattle.store.proofs.card.run_end.Tie as tie
 

@@ -1,6 +1,6 @@
 -- `store::card::run_of_map` meets its contract: the j-th of a map's extents is made of the words that the code reads.
-use Rattle.store.proofs.CardRuns.{first-at, further-at}
 use borrow.Author.Needs.{needs}
+use Rattle.store.proofs.CardRuns.{first-at, further-at}
 use Rattle.store.proofs.card.run_of_map.Statement.{statement}
 use Rattle.store.proofs.card.run_of_map.Tie as tie
 

@@ -6,17 +6,19 @@ use native.Mathlib.Omega.{arith}
 use borrow.Author.Needs.{needs}
 use lib.ListN.{getD}
 use Rattle.regionmap.specs.Map.{Extent}
-use Rattle.model.specs.Opening.{allExtents}
-use Rattle.model.specs.Memory.{plansIn}
-use Rattle.store.proofs.CardRuns.{noBytes, rowFrom, row-end, row-all, row-here, row-behind}
+use Rattle.store.proofs.CardRuns.{noBytes, row, rowFrom, row-end, row-all, row-here, row-behind}
 use Rattle.store.proofs.card.run_of_plan.Statement.{statement}
 use Rattle.store.proofs.card.run_of_plan.Tie as tie
 
 abbrev Inv-loop : tie.InvT-loop
-Inv-loop plan regions k j₀ h₀ j h = (h ≤ regions) × (getD (rowFrom plan regions h) j noBytes ≡ getD (allExtents (plansIn regions plan)) k noBytes)
+Inv-loop plan regions k j₀ h₀ j h = (h ≤ regions) × (getD (rowFrom plan regions h) j noBytes ≡ getD (row plan regions) k noBytes)
 
 abbrev μ-loop : tie.MeasureT-loop
 μ-loop plan regions k j₀ h₀ j h = regions - h
+
+-- a region has at most 32 further runs
+few : (c : tie.After-further-runs Inv-loop μ-loop) → getD (c .before .before .before .before .args .plan .now) (70 * c .before .before .loop .h + 5) 0 ≤ 32
+few c = c .before .before .before .before .pre .1 (c .before .before .loop .h) (c .before .loop-test .taken)
 
 loop-holds : tie.Need-loop-holds Inv-loop μ-loop
 loop-holds c =
@@ -27,9 +29,7 @@ further-runs-requires : tie.Need-further-runs-requires Inv-loop μ-loop
 further-runs-requires c κs = search needs
 
 run-of-region-requires : tie.Need-run-of-region-requires Inv-loop μ-loop
-run-of-region-requires c κs =
-    let start = c .before .before .before .before .before in
-    omega (arith, start .pre .1 (c .before .before .before .loop .h) (c .before .before .loop-test .taken))
+run-of-region-requires c κs = omega (arith, few (c .before))
 
 returns : tie.Need-returns Inv-loop μ-loop
 returns c =
@@ -38,9 +38,7 @@ returns c =
     sym (at .inv .1) ∙ row-here (a .plan .now) (a .regions) (at .h) (at .j) (c .before .before .before .loop-test .taken) (omega arith) ∙ c .run-of-region .ensures
 
 add-j : tie.Need-add-j Inv-loop μ-loop
-add-j c =
-    let start = c .before .before .before .before .before in
-    omega (arith, start .pre .1 (c .before .before .before .loop .h) (c .before .before .loop-test .taken))
+add-j c = omega (arith, few (c .before))
 
 sub-j : tie.Need-sub-j Inv-loop μ-loop
 sub-j c = search needs

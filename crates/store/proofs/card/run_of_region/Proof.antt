@@ -3,11 +3,11 @@ use mathlib.Core.Path.{sym, ap, subst, _∙_}
 use mathlib.Core.List.{List}
 use Prim.Native.Nat.{ℕ, _+_, _*_, _≤_}
 use native.Mathlib.Omega.{arith}
+use borrow.Author.Needs.{needs}
 use lib.ListN.{length, getD}
 use Rattle.regionmap.specs.Map.{extents}
 use Rattle.regionmap.specs.Words.{mapIn}
 use Rattle.store.proofs.CardRuns.{noBytes, map-room, count-word, lent-map}
-use borrow.Author.Needs.{needs}
 use Rattle.store.proofs.card.run_of_region.Statement.{statement}
 use Rattle.store.proofs.card.run_of_region.Tie as tie
 

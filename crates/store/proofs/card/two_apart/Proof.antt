@@ -1,9 +1,9 @@
 -- `store::card::two_apart` meets its contract: a branch for each side of "or".
 use mathlib.Core.Path.{_≡_, refl, sym, _∙_}
 use mathlib.Core.Bool.{Bool, true, false, _||_}
+use borrow.Author.Needs.{needs}
 use Rattle.layout.proofs.Tests.{not-both, or-first}
 use Rattle.regionmap.specs.Map.{apart}
-use borrow.Author.Needs.{needs}
 use Rattle.store.proofs.card.two_apart.Statement.{statement}
 use Rattle.store.proofs.card.two_apart.Tie as tie
 

@@ -1,15 +1,13 @@
 -- `store::card::within_rule` meets its contract. The loop's invariant: whether the runs left lie within the card is whether all do.
 use mathlib.Core.Path.{_≡_, refl, sym, ap, _∙_}
 use mathlib.Core.List.{List}
-use mathlib.Core.Bool.{Bool}
-use Prim.Native.Nat.{ℕ, _+_, _-_, _≤_, _<_}
+use Prim.Native.Nat.{_+_, _-_, _≤_, _<_}
 use native.Mathlib.Omega.{arith}
 use borrow.Author.Needs.{needs}
 use borrow.Author.Tests.{not-true, not-false}
 use lib.ListN.{length, getD, drop}
-use lib.Dec.{leb}
 use Rattle.regionmap.specs.Map.{Extent, allWithin}
-use Rattle.store.proofs.CardRuns.{noBytes, row, within, stops, goes, ends}
+use Rattle.store.proofs.CardRuns.{noBytes, row, endsBy, within, stops, goes, ends}
 use Rattle.store.proofs.card.within_rule.Statement.{statement}
 use Rattle.store.proofs.card.within_rule.Tie as tie
 
@@ -21,9 +19,6 @@ abbrev μ-loop : tie.MeasureT-loop
 
 abbrev rowOf : tie.Start Inv-loop μ-loop → List Extent
 rowOf c = row (c .args .plan .now) (c .args .regions)
-
-abbrev test : ℕ → Extent → Bool
-test card e = leb (e .offset + e .size) card
 
 run-count-requires : tie.Need-run-count-requires Inv-loop μ-loop
 run-count-requires c κs = c .before .pre
@@ -38,8 +33,8 @@ ends-by-requires : tie.Need-ends-by-requires Inv-loop μ-loop
 ends-by-requires c κs = search needs
 
 -- what the code tests is the k-th of the row
-tested : (c : tie.After-ends-by Inv-loop μ-loop) → test (c .before .before .before .before .before .before .args .card) (getD (rowOf (c .before .before .before .before .before .before)) (c .before .before .before .loop .k) noBytes) ≡ c .ends-by .result
-tested c = ap (test (c .before .before .before .before .before .before .args .card)) (c .before .run-of-plan .ensures) ∙ sym (c .ends-by .ensures)
+tested : (c : tie.After-ends-by Inv-loop μ-loop) → endsBy (c .before .before .before .before .before .before .args .card) (getD (rowOf (c .before .before .before .before .before .before)) (c .before .before .before .loop .k) noBytes) ≡ c .ends-by .result
+tested c = ap (endsBy (c .before .before .before .before .before .before .args .card)) (c .before .run-of-plan .ensures) ∙ sym (c .ends-by .ensures)
 
 returns : tie.Need-returns Inv-loop μ-loop
 returns c =
