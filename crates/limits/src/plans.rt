@@ -1,0 +1,129 @@
+// Openings to try: document 01's figures, and plans made from theirs.
+ghost use Prim.Native.Nat.{_≤_};
+use model::Opening;
+
+// The lengths of what is lent, and of the plan.
+pub struct Given {
+    pub rows: usize,
+    pub store: usize,
+    pub free: usize,
+    pub ready: usize,
+    pub owners: usize,
+    pub pool: usize,
+    pub plan: usize,
+}
+
+// "volume 1, region 7, generation 3, block 512, card 16,384; .. depth 2, three buffers of 2,048, lifetime 1,000, store writable, no flush policy"
+pub fn figures() -> Opening {
+    Opening {
+        block: 512,
+        depth: 2,
+        lifetime: 1000,
+        card: 16384,
+        buffers: 3,
+        capacity: 2048,
+        read_only: false,
+        flush: false,
+        volume: 1,
+        class: 0,
+        label: 0,
+        epoch: 0,
+        regions: 1,
+    }
+}
+
+// At most 65,536.
+fn few(n: u64) -> usize
+    ensures { λ r. ⌜ r ≤ 65536 ⌝ }
+{
+    if n <= 65536 { n as usize } else { 65536 }
+}
+
+// Lengths that are just enough.
+pub fn lent(o: Opening) -> Given {
+    let depth = few(o.depth);
+    let buffers = few(o.buffers);
+    let capacity = few(o.capacity);
+    let regions = few(o.regions);
+    Given {
+        rows: depth,
+        store: 48 + 70 * regions,
+        free: depth,
+        ready: 1 + 16 * depth,
+        owners: buffers,
+        pool: buffers * capacity,
+        plan: 70 * regions,
+    }
+}
+
+// The plan with other numbers for region h, its further runs kept.
+pub fn region(plan: [u64; 560], h: usize, id: u64, generation: u64, first: u64, capacity: u64, data: u64) -> [u64; 560] {
+    if 8 <= h {
+        return plan;
+    }
+    let mut p = plan;
+    p[70 * h] = id;
+    p[70 * h + 1] = generation;
+    p[70 * h + 2] = first;
+    p[70 * h + 3] = capacity;
+    p[70 * h + 4] = data;
+    p
+}
+
+// The plan with another count of further runs for region h.
+pub fn counted(plan: [u64; 560], h: usize, count: u64) -> [u64; 560] {
+    if 8 <= h {
+        return plan;
+    }
+    let mut p = plan;
+    p[70 * h + 5] = count;
+    p
+}
+
+// The plan with another j-th further run for region h.
+pub fn run(plan: [u64; 560], h: usize, j: usize, start: u64, offset: u64) -> [u64; 560] {
+    if 8 <= h {
+        return plan;
+    }
+    if 32 <= j {
+        return plan;
+    }
+    let mut p = plan;
+    p[70 * h + 6 + 2 * j] = start;
+    p[70 * h + 7 + 2 * j] = offset;
+    p
+}
+
+// The figures' one region: "first offset 1,024, one further run (1,024, 8,192), capacity and data 2,048".
+pub fn figures_plan() -> [u64; 560] {
+    let one = region([0; 560], 0, 7, 3, 1024, 2048, 2048);
+    run(counted(one, 0, 1), 0, 0, 1024, 8192)
+}
+
+// Region h of 33 runs of a block each, one behind the other on the card, its further runs.
+fn runs_of(plan: [u64; 560], h: usize) -> [u64; 560] {
+    if 8 <= h {
+        return plan;
+    }
+    let mut p = plan;
+    let mut j: usize = 0;
+    while j < 32 {
+        let block = (33 * h + 1 + j) as u64;
+        p = run(p, h, j, 512 * (j as u64 + 1), 512 * block);
+        j += 1;
+    }
+    p
+}
+
+// Eight such regions.
+pub fn full() -> [u64; 560] {
+    let mut p = [0; 560];
+    let mut h: usize = 0;
+    while h < 8 {
+        let first = 512 * 33 * (h as u64);
+        p = counted(region(p, h, h as u64, 0, first, 33 * 512, 33 * 512), h, 32);
+        p = runs_of(p, h);
+        h += 1;
+    }
+    p
+}
