@@ -100,16 +100,18 @@ pub fn figures_plan() -> [u64; 560] {
     run(counted(one, 0, 1), 0, 0, 1024, 8192)
 }
 
-// Region h of 33 runs of a block each, one behind the other on the card, its further runs.
-fn runs_of(plan: [u64; 560], h: usize) -> [u64; 560] {
+// The plan with region h as 33 runs of a block each, one behind the other on the card, and behind those of the regions before it.
+fn full_region(plan: [u64; 560], h: usize) -> [u64; 560] {
     if 8 <= h {
         return plan;
     }
-    let mut p = plan;
+    let first = 33 * h as u64;
+    let mut p = counted(region(plan, h, h as u64, 0, 512 * first, 33 * 512, 33 * 512), h, 32);
     let mut j: usize = 0;
     while j < 32 {
-        let block = (33 * h + 1 + j) as u64;
-        p = run(p, h, j, 512 * (j as u64 + 1), 512 * block);
+        let next = j as u64 + 1;
+        p[70 * h + 6 + 2 * j] = 512 * next;
+        p[70 * h + 7 + 2 * j] = 512 * (first + next);
         j += 1;
     }
     p
@@ -117,13 +119,8 @@ fn runs_of(plan: [u64; 560], h: usize) -> [u64; 560] {
 
 // Eight such regions.
 pub fn full() -> [u64; 560] {
-    let mut p = [0; 560];
-    let mut h: usize = 0;
-    while h < 8 {
-        let first = 512 * 33 * (h as u64);
-        p = counted(region(p, h, h as u64, 0, first, 33 * 512, 33 * 512), h, 32);
-        p = runs_of(p, h);
-        h += 1;
-    }
-    p
+    let a = full_region(full_region([0; 560], 0), 1);
+    let b = full_region(full_region(a, 2), 3);
+    let c = full_region(full_region(b, 4), 5);
+    full_region(full_region(c, 6), 7)
 }

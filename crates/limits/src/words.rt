@@ -1,5 +1,7 @@
 // Printing, and an opening tried over memory of its own.
+ghost use mathlib.Core.Path.{_≡_};
 ghost use Prim.Native.Nat.{_≤_};
+ghost use lib.ListN.{length};
 use crate::plans::Given;
 use libc::STDOUT_FILENO;
 use model::Opening;
@@ -19,12 +21,31 @@ fn cut(n: usize, most: usize) -> usize
     if n < most { n } else { most }
 }
 
+// Memory for the largest opening. Each `ensures` gives only the length, which lending a part asks for.
+fn store_words() -> [u64; 640]
+    ensures { λ r. ⌜ 640 ≡ length r ⌝ }
+{
+    [0; 640]
+}
+
+fn row_words() -> [u64; 4096]
+    ensures { λ r. ⌜ 4096 ≡ length r ⌝ }
+{
+    [0; 4096]
+}
+
+fn ready_words() -> [u64; 65537]
+    ensures { λ r. ⌜ 65537 ≡ length r ⌝ }
+{
+    [0; 65537]
+}
+
 // Opens a table in memory of the given lengths, and prints the name and what came of it.
 pub fn tried(name: &[u8], o: Opening, g: Given, plan: [u64; 560]) {
-    let mut store = [0u64; 640];
-    let mut free = [0u64; 4096];
-    let mut ready = [0u64; 65537];
-    let mut owners = [0u64; 4096];
+    let mut store = store_words();
+    let mut free = row_words();
+    let mut ready = ready_words();
+    let mut owners = row_words();
     let store_len = cut(g.store, 640);
     let free_len = cut(g.free, 4096);
     let ready_len = cut(g.ready, 65537);
