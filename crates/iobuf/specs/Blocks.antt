@@ -8,9 +8,9 @@ use lib.ListN.{take, drop}
 unfoldable pub exchanged : ℕ → ℕ → List ℕ → List ℕ
 exchanged k m bytes = take m (drop k bytes) ++ (drop m (take k bytes) ++ (take m bytes ++ drop (k + m) bytes))
 
--- m bytes are the block to exchange where n bytes turn left by k: the whole of the shorter side, or nothing, which leaves a side of at most 512 bytes
+-- m bytes are the block to exchange where n bytes turn left by k: the whole of the shorter side, or nothing, which leaves a side of at most 2,048 bytes
 pub record Block (n k m : ℕ) : Type 0 where
   pub first : m ≤ k
   pub second : k + m ≤ n
   pub whole : 0 < m → m < k → k + m ≡ n
-  pub left : min k (n - k) ≤ m + 512
+  pub left : min k (n - k) ≤ m + 2048

@@ -2,7 +2,7 @@
 // a buffer's number with the pool: its bytes are the pool's stretch from buffer × capacity on, which is lent on and turned there.
 //
 // A turn exchanges the shorter side with as many bytes of the longer, from the front on, and goes on with the rest. Once the shorter side has
-// at most 512 bytes it is saved in an array, the longer side is moved, and the saved bytes are put back at the other end.
+// at most 2,048 bytes it is saved in an array, the longer side is moved, and the saved bytes are put back at the other end.
 ghost use mathlib.Core.Path.{_≡_};
 ghost use mathlib.Core.List.{_++_};
 ghost use Prim.Native.Nat.{_+_, _-_, _≤_, _<_, min};
@@ -105,7 +105,7 @@ fn exchange(s: &mut [u8], k: usize, m: usize)
     }
 }
 
-// How many bytes to exchange next where n bytes turn left by k: the shorter side if it is above 512 or as long as the other, else none.
+// How many bytes to exchange next where n bytes turn left by k: the shorter side if it is above 2,048 or as long as the other, else none.
 fn block(n: usize, k: usize) -> usize
     requires { ⌜ k ≤ n ⌝ }
     ensures { λ m. ⌜ Block n k m ⌝ }
@@ -115,23 +115,49 @@ fn block(n: usize, k: usize) -> usize
         return k;
     }
     let m = lesser(k, rest);
-    if m <= 512 { 0 } else { m }
+    if m <= 2048 { 0 } else { m }
 }
 
-// Turns all of `s` left by k through an array, where the shorter side has at most 512 bytes.
-fn shift(s: &mut [u8], k: usize)
+// Turns all of `s` left by k through an array of 512 bytes, which holds the shorter side.
+fn shift_narrow(s: &mut [u8], k: usize)
     requires { ⌜ (k ≤ length (now s)) × (min k (length (now s) - k) ≤ 512) ⌝ }
     ensures { λ _. ⌜ now (s .exit) ≡ drop k (now (s .entry)) ++ take k (now (s .entry)) ⌝ }
 {
-    if k == s.len() {
-        return;
-    }
     let mut saved = [0u8; 512];
     let mut held = [0u8; 512];
     if k <= 512 {
         shift_left(s, &mut saved, &mut held, k);
     } else {
         shift_right(s, &mut saved, &mut held, k);
+    }
+}
+
+// Turns all of `s` left by k through an array of 2048 bytes, which holds the shorter side.
+fn shift_wide(s: &mut [u8], k: usize)
+    requires { ⌜ (k ≤ length (now s)) × (min k (length (now s) - k) ≤ 2048) ⌝ }
+    ensures { λ _. ⌜ now (s .exit) ≡ drop k (now (s .entry)) ++ take k (now (s .entry)) ⌝ }
+{
+    let mut saved = [0u8; 2048];
+    let mut held = [0u8; 512];
+    if k <= 2048 {
+        shift_left(s, &mut saved, &mut held, k);
+    } else {
+        shift_right(s, &mut saved, &mut held, k);
+    }
+}
+
+// Turns all of `s` left by k where the shorter side has at most 2,048 bytes, through the smaller array if that holds it.
+fn shift(s: &mut [u8], k: usize)
+    requires { ⌜ (k ≤ length (now s)) × (min k (length (now s) - k) ≤ 2048) ⌝ }
+    ensures { λ _. ⌜ now (s .exit) ≡ drop k (now (s .entry)) ++ take k (now (s .entry)) ⌝ }
+{
+    if k == s.len() {
+        return;
+    }
+    if lesser(k, s.len() - k) <= 512 {
+        shift_narrow(s, k);
+    } else {
+        shift_wide(s, k);
     }
 }
 

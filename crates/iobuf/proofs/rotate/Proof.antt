@@ -26,7 +26,7 @@ room at k n h = omega arith
 closer : (at m k n : ℕ) → 0 < m → at + m + k ≤ n → n - (at + m) < n - at
 closer at m k n pos h = omega arith
 
-small : (k m n : ℕ) → m ≤ 0 → min k (n - k) ≤ m + 512 → min k (n - k) ≤ 512
+small : (k m n : ℕ) → m ≤ 0 → min k (n - k) ≤ m + 2048 → min k (n - k) ≤ 2048
 small k m n z h = omega arith
 
 -- in a turn the block has bytes
