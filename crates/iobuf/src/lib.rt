@@ -118,35 +118,35 @@ fn block(n: usize, k: usize) -> usize
     if m <= 2048 { 0 } else { m }
 }
 
-// Turns all of `s` left by k through an array of 512 bytes, which holds the shorter side.
+// Turns all of `s` left by k through arrays of 512 bytes, of which one holds the shorter side.
 fn shift_narrow(s: &mut [u8], k: usize)
     requires { ⌜ (k ≤ length (now s)) × (min k (length (now s) - k) ≤ 512) ⌝ }
     ensures { λ _. ⌜ now (s .exit) ≡ drop k (now (s .entry)) ++ take k (now (s .entry)) ⌝ }
 {
     let mut saved = [0u8; 512];
     let mut held = [0u8; 512];
-    if k <= 512 {
+    if k <= s.len() - k {
         shift_left(s, &mut saved, &mut held, k);
     } else {
         shift_right(s, &mut saved, &mut held, k);
     }
 }
 
-// Turns all of `s` left by k through an array of 2048 bytes, which holds the shorter side.
+// Turns all of `s` left by k through arrays of 2,048 bytes, of which one holds the shorter side.
 fn shift_wide(s: &mut [u8], k: usize)
     requires { ⌜ (k ≤ length (now s)) × (min k (length (now s) - k) ≤ 2048) ⌝ }
     ensures { λ _. ⌜ now (s .exit) ≡ drop k (now (s .entry)) ++ take k (now (s .entry)) ⌝ }
 {
     let mut saved = [0u8; 2048];
-    let mut held = [0u8; 512];
-    if k <= 2048 {
+    let mut held = [0u8; 2048];
+    if k <= s.len() - k {
         shift_left(s, &mut saved, &mut held, k);
     } else {
         shift_right(s, &mut saved, &mut held, k);
     }
 }
 
-// Turns all of `s` left by k where the shorter side has at most 2,048 bytes, through the smaller array if that holds it.
+// Turns all of `s` left by k where the shorter side has at most 2,048 bytes, through the smaller arrays where there is little to move.
 fn shift(s: &mut [u8], k: usize)
     requires { ⌜ (k ≤ length (now s)) × (min k (length (now s) - k) ≤ 2048) ⌝ }
     ensures { λ _. ⌜ now (s .exit) ≡ drop k (now (s .entry)) ++ take k (now (s .entry)) ⌝ }
@@ -154,11 +154,13 @@ fn shift(s: &mut [u8], k: usize)
     if k == s.len() {
         return;
     }
-    if lesser(k, s.len() - k) <= 512 {
-        shift_narrow(s, k);
-    } else {
-        shift_wide(s, k);
+    if s.len() <= 16384 {
+        if lesser(k, s.len() - k) <= 512 {
+            shift_narrow(s, k);
+            return;
+        }
     }
+    shift_wide(s, k);
 }
 
 // Turns all of `s` left by `by`: blocks are exchanged from the front on, and the rest is shifted.

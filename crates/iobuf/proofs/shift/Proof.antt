@@ -1,4 +1,4 @@
--- `iobuf::shift` meets its contract: a turn by all of the bytes changes nothing, and either array holds the shorter side.
+-- `iobuf::shift` meets its contract: a turn by all of the bytes changes nothing, and the arrays that are taken hold the shorter side.
 use mathlib.Core.Path.{sym}
 use mathlib.Core.List.{_++_}
 use native.Mathlib.Omega.{arith}
@@ -23,14 +23,14 @@ lesser-requires c κs = search needs
 shift-narrow-requires : tie.Need-shift-narrow-requires
 shift-narrow-requires c κs = search needs
 
-shift-wide-requires : tie.Need-shift-wide-requires
-shift-wide-requires c κs = search needs
-
 same-length : tie.Need-same-length
 same-length c = search needs
 
 returns-2 : tie.Need-returns-2
 returns-2 c = search needs
+
+shift-wide-requires : tie.Need-shift-wide-requires
+shift-wide-requires c κs = search needs
 
 same-length-2 : tie.Need-same-length-2
 same-length-2 c = search needs
@@ -46,8 +46,8 @@ shift-spec =
     sub-lesser
     lesser-requires
     shift-narrow-requires
-    shift-wide-requires
     same-length
     returns-2
+    shift-wide-requires
     same-length-2
     returns-3)
