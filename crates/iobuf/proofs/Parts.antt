@@ -1,4 +1,4 @@
--- The equations of lists that the steps of a turn in place come down to: a list is cut into its blocks, and each side is those blocks in order.
+-- The equations of lists that the steps of a turn in place come down to: a list is cut into parts, and each side of an equation is those parts in order.
 use mathlib.Core.Path.{_≡_, sym, ap, _∙_}
 use mathlib.Core.Logic.{_⊎_, inl, inr}
 use mathlib.Core.List.{List, [], _∷_, _++_, append-assoc, append-nil}
@@ -8,7 +8,7 @@ use native.Mathlib.Numerals.{add-one}
 use native.Mathlib.Omega.{arith}
 use lib.ListN.{length, take, drop, getD, set, length-append, length-take, length-drop, take-append-drop, drop-of-length-le}
 use lib.Seq.{length-take-le, take-all, take-suc, drop-cons, take-append-le, getD-drop, take-take, drop-drop, take-add, set-at, take-at, drop-at, getD-at, paste, slice-empty, slice-cons, length-slice}
-use Rattle.iobuf.specs.Blocks.{exchanged, Block}
+use Rattle.iobuf.specs.Exchange.{exchanged, Next}
 
 -- a copy through `held`: h is what it held before and h₁ what it holds between, p is the place that was copied to
 pub hopped : (s h h₁ p : List ℕ) (from to : ℕ) → h₁ ≡ take (from + length h - from) (drop from s) → length h₁ ≡ length h → p ≡ h₁
@@ -133,7 +133,7 @@ put-before l s p k h e q =
     (drop-at (take (length l - k) l) (take (length l - (length l - k)) l) (length l - k) (length-take-le (length l - k) l (omega arith))
     ∙ ap (λ (n : ℕ). take n l) back)
 
--- once the front has been exchanged with the block at k it holds what belongs there, and the rest is cut as it came
+-- once the front has been exchanged with the bytes at k it holds what belongs there, and the rest is cut as it came
 exchanged-front : (l : List ℕ) (k m : ℕ) → k + m ≤ length l → take m (exchanged k m l) ≡ take m (drop k l)
 unfolding exchanged
 exchanged-front l k m h = take-at (take m (drop k l)) _ m (simp (length-take, length-drop) (omega arith))
@@ -178,15 +178,15 @@ onward s p at m k h =
     let rest : drop (at + m) (take at s ++ p) ≡ drop m p = sym (drop-drop m at (take at s ++ p)) ∙ ap (drop m) (drop-at (take at s) p at long) in
     (λ i. front i ++ rot k (rest i)) ∙ append-assoc (take at s) (take m p) (rot k (drop m p))
 
--- where the block is the whole first side, the amount is kept and what is left has room for it
+-- where the whole first side is exchanged, the amount is kept and what is left has room for it
 closes : (at k m k′ n : ℕ) → m ≡ k → k′ ≡ k → at + k ≤ n → k + m ≤ n - at → (at + m) + k′ ≤ n
 closes at k m k′ n e f h b = omega arith
 
 twice : (k m n : ℕ) → m ≡ k → k + m ≤ n → k + k ≤ n
 twice k m n e h = omega arith
 
--- a turn of the blocks' loop: p is the part from `at` on after the exchange, and the rest is turned by k′ to give what is wanted
-pub step : (s p want : List ℕ) (at k k′ m : ℕ) → at + k ≤ length s → Block (length s - at) k m → 0 < m
+-- a turn of the loop of exchanges: p is the part from `at` on after the exchange, and the rest is turned by k′ to give what is wanted
+pub step : (s p want : List ℕ) (at k k′ m : ℕ) → at + k ≤ length s → Next (length s - at) k m → 0 < m
     → p ≡ exchanged k m (take (length s - at) (drop at s)) → take at s ++ rot k (drop at s) ≡ want → ((m < k) × (k′ ≡ k - m)) ⊎ ((k ≤ m) × (k′ ≡ k))
     → ((at + m) + k′ ≤ length s)
     × (take (at + m) (take at s ++ (p ++ drop (length s - at) (drop at s))) ++ rot k′ (drop (at + m) (take at s ++ (p ++ drop (length s - at) (drop at s)))) ≡ want)

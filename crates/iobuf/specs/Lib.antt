@@ -1,3 +1,3 @@
 pub mod Turn
 pub mod TurnLaws
-pub mod Blocks
+pub mod Exchange

@@ -2,13 +2,14 @@
 // a buffer's number with the pool: its bytes are the pool's stretch from buffer × capacity on, which is lent on and turned there.
 //
 // A turn exchanges the shorter side with as many bytes of the longer, from the front on, and goes on with the rest. Once the shorter side has
-// at most 512 bytes it is saved in an array, the longer side is moved, and the saved bytes are put back at the other end.
+// at most 2,048 bytes it is saved in an array, the longer side is moved, and the saved bytes are put back at the other end.
+// The sizes of the arrays are those at which each way was measured to be the faster.
 ghost use mathlib.Core.Path.{_≡_};
 ghost use mathlib.Core.List.{_++_};
 ghost use Prim.Native.Nat.{_+_, _-_, _≤_, _<_, min};
 ghost use lib.ListN.{length, take, drop};
 ghost use lib.Seq.{paste};
-ghost use Rattle.iobuf.specs.Blocks.{Block, exchanged};
+ghost use Rattle.iobuf.specs.Exchange.{Next, exchanged};
 ghost use Rattle.iobuf.specs.Turn.{turned, turnedIn};
 
 // Copies `from` onto `to`, which is as long (copy_from_slice).
@@ -105,37 +106,65 @@ fn exchange(s: &mut [u8], k: usize, m: usize)
     }
 }
 
-// How many bytes to exchange next where n bytes turn left by k: the shorter side if it is above 512 or as long as the other, else none.
-fn block(n: usize, k: usize) -> usize
+// How many bytes to exchange next where n bytes turn left by k: the shorter side if it is above 2,048 or as long as the other, else none.
+fn next(n: usize, k: usize) -> usize
     requires { ⌜ k ≤ n ⌝ }
-    ensures { λ m. ⌜ Block n k m ⌝ }
+    ensures { λ m. ⌜ Next n k m ⌝ }
 {
     let rest = n - k;
     if k == rest {
         return k;
     }
     let m = lesser(k, rest);
-    if m <= 512 { 0 } else { m }
+    if m <= 2048 { 0 } else { m }
 }
 
-// Turns all of `s` left by k through an array, where the shorter side has at most 512 bytes.
-fn shift(s: &mut [u8], k: usize)
+// Turns all of `s` left by k through arrays of 512 bytes, of which one holds the shorter side.
+fn shift_narrow(s: &mut [u8], k: usize)
     requires { ⌜ (k ≤ length (now s)) × (min k (length (now s) - k) ≤ 512) ⌝ }
     ensures { λ _. ⌜ now (s .exit) ≡ drop k (now (s .entry)) ++ take k (now (s .entry)) ⌝ }
 {
-    if k == s.len() {
-        return;
-    }
     let mut saved = [0u8; 512];
     let mut held = [0u8; 512];
-    if k <= 512 {
+    if k <= s.len() - k {
         shift_left(s, &mut saved, &mut held, k);
     } else {
         shift_right(s, &mut saved, &mut held, k);
     }
 }
 
-// Turns all of `s` left by `by`: blocks are exchanged from the front on, and the rest is shifted.
+// Turns all of `s` left by k through arrays of 2,048 bytes, of which one holds the shorter side.
+fn shift_wide(s: &mut [u8], k: usize)
+    requires { ⌜ (k ≤ length (now s)) × (min k (length (now s) - k) ≤ 2048) ⌝ }
+    ensures { λ _. ⌜ now (s .exit) ≡ drop k (now (s .entry)) ++ take k (now (s .entry)) ⌝ }
+{
+    let mut saved = [0u8; 2048];
+    let mut held = [0u8; 2048];
+    if k <= s.len() - k {
+        shift_left(s, &mut saved, &mut held, k);
+    } else {
+        shift_right(s, &mut saved, &mut held, k);
+    }
+}
+
+// Turns all of `s` left by k where the shorter side has at most 2,048 bytes, through the smaller arrays where there is little to move.
+fn shift(s: &mut [u8], k: usize)
+    requires { ⌜ (k ≤ length (now s)) × (min k (length (now s) - k) ≤ 2048) ⌝ }
+    ensures { λ _. ⌜ now (s .exit) ≡ drop k (now (s .entry)) ++ take k (now (s .entry)) ⌝ }
+{
+    if k == s.len() {
+        return;
+    }
+    if s.len() <= 16384 {
+        if lesser(k, s.len() - k) <= 512 {
+            shift_narrow(s, k);
+            return;
+        }
+    }
+    shift_wide(s, k);
+}
+
+// Turns all of `s` left by `by`: sides are exchanged from the front on, and what is left is shifted.
 fn rotate(s: &mut [u8], by: usize)
     requires { ⌜ by ≤ length (now s) ⌝ }
     ensures { λ _. ⌜ now (s .exit) ≡ drop by (now (s .entry)) ++ take by (now (s .entry)) ⌝ }
@@ -143,14 +172,14 @@ fn rotate(s: &mut [u8], by: usize)
     let n = s.len();
     let mut at = 0;
     let mut k = by;
-    let mut m = block(n, k);
+    let mut m = next(n, k);
     while 0 < m {
         exchange(&mut s[at..], k, m);
         at += m;
         if m < k {
             k -= m;
         }
-        m = block(n - at, k);
+        m = next(n - at, k);
     }
     shift(&mut s[at..], k);
 }

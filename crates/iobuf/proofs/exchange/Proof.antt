@@ -1,11 +1,11 @@
--- `iobuf::exchange` meets its contract: before each turn the first i bytes of the two blocks have been exchanged. The measure is what is left of a block.
+-- `iobuf::exchange` meets its contract: before each turn the first i bytes of the two sides have been exchanged. The measure is what is left to exchange.
 use mathlib.Core.Path.{_≡_, refl, sym, ap, _∙_}
 use mathlib.Core.List.{_++_}
 use Prim.Native.Nat.{ℕ, _-_, _≤_}
 use native.Mathlib.Nat.{add-zero}
 use native.Mathlib.Omega.{arith}
 use lib.ListN.{take-append-drop, length, take, drop, length-set}
-use Rattle.iobuf.specs.Blocks.{exchanged}
+use Rattle.iobuf.specs.Exchange.{exchanged}
 use Rattle.iobuf.proofs.Parts.{exchange-next}
 use Rattle.iobuf.proofs.exchange.Statement.{statement}
 use Rattle.iobuf.proofs.exchange.Tie as tie

@@ -8,28 +8,28 @@ use native.Mathlib.Omega.{arith}
 use lib.ListN.{length, take, drop}
 use borrow.Author.Needs.{needs}
 use borrow.Rule.Slice.PartMut.{same-len-mid}
-use Rattle.iobuf.specs.Blocks.{Block}
+use Rattle.iobuf.specs.Exchange.{Next}
 use Rattle.iobuf.proofs.Parts.{rot, to-end, end-long, past-end, step}
 use Rattle.iobuf.proofs.rotate.Statement.{statement}
 use Rattle.iobuf.proofs.rotate.Tie as tie
 
 abbrev Inv-loop : tie.InvT-loop
-Inv-loop s₀ by n at₀ k₀ m₀ s at k m = (n ≡ length s₀) × (length s ≡ length s₀) × (at + k ≤ length s) × Block (length s - at) k m × (take at s ++ rot k (drop at s) ≡ rot by s₀)
+Inv-loop s₀ by n at₀ k₀ m₀ s at k m = (n ≡ length s₀) × (length s ≡ length s₀) × (at + k ≤ length s) × Next (length s - at) k m × (take at s ++ rot k (drop at s) ≡ rot by s₀)
 
 abbrev μ-loop : tie.MeasureT-loop
 μ-loop s₀ by n at₀ k₀ m₀ s at k m = n - at
 
--- the arithmetic of a turn: what is left has room for k, it gets less, and with no block left one side is short
+-- the arithmetic of a turn: what is left has room for k, it gets less, and with nothing left to exchange one side is short
 room : (at k n : ℕ) → at + k ≤ n → k ≤ n - at
 room at k n h = omega arith
 
 closer : (at m k n : ℕ) → 0 < m → at + m + k ≤ n → n - (at + m) < n - at
 closer at m k n pos h = omega arith
 
-small : (k m n : ℕ) → m ≤ 0 → min k (n - k) ≤ m + 512 → min k (n - k) ≤ 512
+small : (k m n : ℕ) → m ≤ 0 → min k (n - k) ≤ m + 2048 → min k (n - k) ≤ 2048
 small k m n z h = omega arith
 
--- in a turn the block has bytes
+-- in a turn there are bytes to exchange
 some : (c : tie.In-loop Inv-loop μ-loop) → 0 < c .before .loop .m
 some c = omega (arith, c .loop-test .taken)
 
@@ -47,14 +47,14 @@ joined c =
     (head .loop .inv .2) (head .loop .inv .3) (some (c .before .before .before .before .before)) (c .before .before .before .exchange .ensures) (head .loop .inv .4)
     (⊎-elim (λ w. inl (w .0 .taken, w .1)) (λ w. inr (w .0 .left, w .1)) (c .if1 .came))
 
-block-requires : tie.Need-block-requires Inv-loop μ-loop
-block-requires c κs = search needs
+next-requires : tie.Need-next-requires Inv-loop μ-loop
+next-requires c κs = search needs
 
 loop-holds : tie.Need-loop-holds Inv-loop μ-loop
 loop-holds c =
     let l = c .before .before .args .s .now in
     let all : length l ≡ length l - 0 = omega arith in
-    (refl, refl, omega arith, subst (λ (n : ℕ). Block n (c .before .before .args .by) (c .block .result)) all (c .block .ensures), refl)
+    (refl, refl, omega arith, subst (λ (n : ℕ). Next n (c .before .before .args .by) (c .next .result)) all (c .next .ensures), refl)
 
 sub-exchange : tie.Need-sub-exchange Inv-loop μ-loop
 sub-exchange c = search needs
@@ -74,11 +74,11 @@ add-at c = search needs
 sub-k : tie.Need-sub-k Inv-loop μ-loop
 sub-k c = search needs
 
-sub-block : tie.Need-sub-block Inv-loop μ-loop
-sub-block c = search needs
+sub-next : tie.Need-sub-next Inv-loop μ-loop
+sub-next c = search needs
 
-block-requires-2 : tie.Need-block-requires-2 Inv-loop μ-loop
-block-requires-2 c κs =
+next-requires-2 : tie.Need-next-requires-2 Inv-loop μ-loop
+next-requires-2 c κs =
     let head = c .before .before .before .before .before .before in
     subst (λ (n : ℕ). c .if1 .k ≤ n - (head .loop .at + head .loop .m)) (head .loop .inv .1) (room (head .loop .at + head .loop .m) (c .if1 .k) (length (head .loop .s)) (joined c .0))
 
@@ -102,7 +102,7 @@ loop-again c =
       refl,
       long ∙ head .loop .inv .1,
       subst (λ (n : ℕ). next + k ≤ n) (sym long) (done .0),
-      subst (λ (n : ℕ). Block (n - next) k (c .block2 .result)) (sym (long ∙ head .loop .inv .1)) (c .block2 .ensures),
+      subst (λ (n : ℕ). Next (n - next) k (c .next2 .result)) (sym (long ∙ head .loop .inv .1)) (c .next2 .ensures),
       done .1,
     )
 
@@ -145,7 +145,7 @@ rotate-spec =
     (tie.spec
     Inv-loop
     μ-loop
-    block-requires
+    next-requires
     loop-holds
     sub-exchange
     part-exchange-start
@@ -153,8 +153,8 @@ rotate-spec =
     exchange-requires
     add-at
     sub-k
-    sub-block
-    block-requires-2
+    sub-next
+    next-requires-2
     loop-less
     loop-again
     sub-shift

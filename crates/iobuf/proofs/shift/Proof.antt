@@ -1,4 +1,4 @@
--- `iobuf::shift` meets its contract: a turn by all of the bytes changes nothing, and each shift is handed the side that the array holds.
+-- `iobuf::shift` meets its contract: a turn by all of the bytes changes nothing, and the arrays that are taken hold the shorter side.
 use mathlib.Core.Path.{sym}
 use mathlib.Core.List.{_++_}
 use native.Mathlib.Omega.{arith}
@@ -12,31 +12,25 @@ returns : tie.Need-returns
 returns c =
     let l = c .before .before .args .s .now in
     let k = c .before .before .args .k in
-    sym ((λ i. drop-of-length-le l {i = k} (omega arith) i ++ take-all k l (omega arith) i))
+    sym (λ i. drop-of-length-le l {i = k} (omega arith) i ++ take-all k l (omega arith) i)
 
-slice-aggregate-shift-left : tie.Need-slice-aggregate-shift-left
-slice-aggregate-shift-left c = search needs
+sub-lesser : tie.Need-sub-lesser
+sub-lesser c = search needs
 
-slice-aggregate-shift-left-2 : tie.Need-slice-aggregate-shift-left-2
-slice-aggregate-shift-left-2 c = search needs
+lesser-requires : tie.Need-lesser-requires
+lesser-requires c κs = search needs
 
-shift-left-requires : tie.Need-shift-left-requires
-shift-left-requires c κs = search needs
-
-slice-aggregate-shift-right : tie.Need-slice-aggregate-shift-right
-slice-aggregate-shift-right c = search needs
-
-slice-aggregate-shift-right-2 : tie.Need-slice-aggregate-shift-right-2
-slice-aggregate-shift-right-2 c = search needs
-
-shift-right-requires : tie.Need-shift-right-requires
-shift-right-requires c κs = search needs
+shift-narrow-requires : tie.Need-shift-narrow-requires
+shift-narrow-requires c κs = search needs
 
 same-length : tie.Need-same-length
 same-length c = search needs
 
 returns-2 : tie.Need-returns-2
 returns-2 c = search needs
+
+shift-wide-requires : tie.Need-shift-wide-requires
+shift-wide-requires c κs = search needs
 
 same-length-2 : tie.Need-same-length-2
 same-length-2 c = search needs
@@ -49,13 +43,11 @@ shift-spec =
     tie.close
     (tie.spec
     returns
-    slice-aggregate-shift-left
-    slice-aggregate-shift-left-2
-    shift-left-requires
-    slice-aggregate-shift-right
-    slice-aggregate-shift-right-2
-    shift-right-requires
+    sub-lesser
+    lesser-requires
+    shift-narrow-requires
     same-length
     returns-2
+    shift-wide-requires
     same-length-2
     returns-3)
