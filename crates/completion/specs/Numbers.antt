@@ -1,6 +1,5 @@
 -- "Where an answer is an enum, a definition lists this paper's number and values for each case."
 -- The numbers stand in document 01 under "A submission, question by question", "Opening" and "An answer arrives".
-use mathlib.Core.Option.{Option, none, some}
 use Prim.Native.Nat.{ℕ}
 use Rattle.regionmap.specs.declared.Position.{Position}
 use Rattle.domain.specs.declared.FirstCause.{FirstCause}

@@ -100,6 +100,7 @@ pub enum Reply {
     // Turned away: nothing has changed.
     No(Refusal),
     // A first piece refused: "The host gets Io or QueueFull and the range, and its buffer, if it came back, with the whole length."
+    // Io where there is an OS error, QueueFull where there is none.
     Rejected { range: Range, op: Op, raw: OsError, buf: Buffer },
     // The operation is complete: its completion can be taken.
     Done { qtag: u64 },

@@ -16,6 +16,7 @@ pub enum OsError {
     Raw(u32),
 }
 
+// A cause; the name is the Rust's, though causes that were not first are of this type too.
 pub struct FirstCause {
     pub op: Op,
     pub raw: OsError,

@@ -1,5 +1,5 @@
 -- What holds of a turn and of a buffer's stretch, whatever the numbers: where each byte goes, that turns add up, and that
--- "The turn back by total − done undoes the turns so far".
+-- the turn back by total − done undoes the turns so far.
 use mathlib.Core.Path.{_≡_}
 use mathlib.Core.Logic.{_≢_}
 use mathlib.Core.List.{List, [], _∷_}

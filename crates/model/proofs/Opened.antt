@@ -17,7 +17,7 @@ use Rattle.model.specs.declared.Row.{Row}
 use Rattle.model.specs.State.{Region, State, Owner, Owner.host, freed, upFrom}
 use Rattle.model.specs.Opening.{Plan, atFirst, opened}
 use Rattle.model.specs.Memory.{Lent, lengthsOf, planIn, plansIn, opens, flag, settingsIn, lengthsIn, poisonIn, gateIn, regionIn, regionsIn, ownerIn, readyIn, stateIn, word01, storeHead, over, rowsOpened, storeOpened, freeOpened, readyOpened, ownersOpened, openedLent}
-use Rattle.model.specs.Laws.{OpenedState, fresh}
+use Rattle.model.specs.Laws.{fresh}
 use Rattle.model.proofs.Rules.{numbers-hold, plan-listed}
 
 flag-word : (b : Bool) → flag (word01 b) ≡ b
@@ -97,7 +97,7 @@ module _ (o : Opening) (plan : List ℕ) (l : Lent) (listed : 70 * o .regions �
   unfolding ownersOpened
   owners-read = ap (map ownerIn) (front (replicate (o .buffers) 0) (l .owners) (o .buffers) (length-replicate (o .buffers) 0)) ∙ map-same (o .buffers)
 
-pub opened-state : OpenedState
+pub opened-state : (o : Opening) (plan : List ℕ) (l : Lent) → opens o plan (lengthsOf l) ≡ true → stateIn fresh (openedLent o plan l) ≡ opened o (plansIn (o .regions) plan) (lengthsOf l) (l .pool)
 unfolding stateIn settingsIn opened openedLent poisonIn readyIn flag pick storeOpened storeHead over
 opened-state o plan l h =
     let listed = plan-listed o plan (lengthsOf l) h in

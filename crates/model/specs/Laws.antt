@@ -1,19 +1,23 @@
--- What an admitted opening leaves: the state of the memory is the one that document 01 says, every map is lawful, and no two positions of the
--- table share a card byte. Proved in proofs/; the crates above use these laws instead of the definitions' text.
+-- What an admitted opening leaves: the state of the memory is the one that document 01 says, every map is lawful and lies in its words, no two
+-- positions of the table share a card byte, and the pieces of any range act like one transfer. Proved in proofs/Laws.antt (opening-laws); the
+-- crates above use these laws instead of the definitions' text.
 use mathlib.Core.Path.{_≡_}
 use mathlib.Core.Logic.{_≢_}
 use mathlib.Core.Bool.{true}
 use mathlib.Core.List.{List, []}
-use Prim.Native.Nat.{ℕ, _<_}
-use lib.ListN.{getD}
+use Prim.Native.Nat.{ℕ, _+_, _*_, _≤_, _<_}
+use lib.ListN.{length, getD, take, drop}
 use Rattle.regionmap.specs.Map.{Map, place}
-use Rattle.regionmap.specs.Words.{wrap64}
+use Rattle.regionmap.specs.Words.{wrap64, mapIn, HoldsMap}
 use Rattle.regionmap.specs.Laws.{Lawful}
+use Rattle.transfer.specs.Transfer.{CardAndPool, Operation, wrote, readIn, whole, OneWrite, OneRead}
 use Rattle.model.specs.declared.Opening.{Opening}
+use Rattle.model.specs.declared.Lengths.{Lengths}
 use Rattle.model.specs.declared.Counts.{Counts}
 use Rattle.model.specs.State.{State}
 use Rattle.model.specs.Opening.{Plan, opened}
-use Rattle.model.specs.Memory.{Lent, lengthsOf, planIn, plansIn, opens, stateIn, openedLent}
+use Rattle.model.specs.Memory.{Lent, lengthsOf, sameLengths, planIn, plansIn, opens, stateIn, storeOpened, openedLent}
+use Rattle.model.specs.Meaning.{Numbers, Room}
 
 -- the counts at first
 abbrev pub fresh : Counts
@@ -22,11 +26,6 @@ fresh = record { live = 0; ready = 0; submissions = 0 }
 -- the map of the region at handle h
 abbrev pub mapAt : Opening → List ℕ → ℕ → Map
 mapAt o plan h = getD (plansIn (o .regions) plan) h (planIn []) .map
-
--- "At first ..": the state in what is lent once the opening is admitted
-abbrev pub OpenedState : Type 0
-OpenedState =
-    (o : Opening) (plan : List ℕ) (l : Lent) → opens o plan (lengthsOf l) ≡ true → stateIn fresh (openedLent o plan l) ≡ opened o (plansIn (o .regions) plan) (lengthsOf l) (l .pool)
 
 pub record OpenedMaps (o : Opening) (plan : List ℕ) : Type 0 where
   pub lawful : (h : ℕ) → h < o .regions → Lawful (mapAt o plan h)
@@ -37,3 +36,37 @@ pub record OpenedMaps (o : Opening) (plan : List ℕ) : Type 0 where
   -- every card offset is on the card, and is itself in 64 bits
   pub on-card : (h p : ℕ) → h < o .regions → p < mapAt o plan h .capacity → place (mapAt o plan h) p < o .card
   pub fits : (h p : ℕ) → h < o .regions → p < mapAt o plan h .capacity → wrap64 (place (mapAt o plan h) p) ≡ place (mapAt o plan h) p
+
+-- the words of region h's map in the store of an opened table
+abbrev pub mapWordsAt : List ℕ → ℕ → List ℕ
+mapWordsAt store h = take 68 (drop (50 + 70 * h) store)
+
+-- the operation of a range of region h in buffer b, over an opened table's pool
+abbrev pub operationAt : Opening → List ℕ → ℕ → ℕ → ℕ → ℕ → Operation
+operationAt o plan h b start total = record { map = mapAt o plan h; capacity = o .capacity; buffer = b; start = start; total = total }
+
+-- what a submission's questions will ask of such an operation
+pub record Asked (o : Opening) (plan : List ℕ) (h b start total : ℕ) : Type 0 where
+  pub region : h < o .regions
+  pub buffer : b < o .buffers
+  pub length : total ≤ o .capacity
+  pub inData : start + total ≤ mapAt o plan h .dataLength
+
+-- the laws of an admitted opening
+pub record OpeningLaws : Type 0 where
+  pub numbers : (o : Opening) (plan : List ℕ) (l : Lengths) → opens o plan l ≡ true → Numbers o
+  pub room : (o : Opening) (plan : List ℕ) (l : Lengths) → opens o plan l ≡ true → Room o l
+  -- "At first ..": the state in what is lent is the one that document 01 says
+  pub state : (o : Opening) (plan : List ℕ) (l : Lent) → opens o plan (lengthsOf l) ≡ true → stateIn fresh (openedLent o plan l) ≡ opened o (plansIn (o .regions) plan) (lengthsOf l) (l .pool)
+  pub maps : (o : Opening) (plan : List ℕ) (l : Lengths) → opens o plan l ≡ true → OpenedMaps o plan
+  -- the words of each region hold its map
+  pub held : (o : Opening) (plan store : List ℕ) (l : Lengths) → opens o plan l ≡ true → (h : ℕ) → h < o .regions
+      → HoldsMap (mapWordsAt (storeOpened o plan l store) h) × (mapIn (mapWordsAt (storeOpened o plan l store) h) ≡ mapAt o plan h)
+  -- the lengths that a later call is asked for are those of the opening
+  pub lengths : (o : Opening) (plan store : List ℕ) (l later : Lengths) → opens o plan l ≡ true
+      → (sameLengths later (storeOpened o plan l store) ≡ true → later ≡ l) × (later ≡ l → sameLengths later (storeOpened o plan l store) ≡ true)
+  -- "act together like one transfer of every byte to or from its mapped card offset, and touch no other byte", of any range of any region
+  pub write : (o : Opening) (plan : List ℕ) (l : Lengths) → opens o plan l ≡ true → (h b start total : ℕ) → Asked o plan h b start total → (s : CardAndPool) → length (s .pool) ≡ l .pool
+      → OneWrite (operationAt o plan h b start total) s (whole wrote (operationAt o plan h b start total) s)
+  pub read : (o : Opening) (plan : List ℕ) (l : Lengths) → opens o plan l ≡ true → (h b start total : ℕ) → Asked o plan h b start total → (s : CardAndPool) → length (s .pool) ≡ l .pool
+      → OneRead (operationAt o plan h b start total) s (whole readIn (operationAt o plan h b start total) s)

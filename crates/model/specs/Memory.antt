@@ -7,7 +7,7 @@
 -- free     the free rows, top first, from place `live` up to the depth
 -- ready    0 the place of the oldest completion; 1 + 16 i the completion at place i of a ring of depth places
 -- owners   of each buffer: 0 the host, 1 the table, 2 lost
-use mathlib.Core.Bool.{Bool, true, false, not, _||_}
+use mathlib.Core.Bool.{Bool, true, false, not, _&&_, _||_}
 use mathlib.Core.List.{List, [], _∷_, _++_, map}
 use Prim.Native.Nat.{ℕ, zero, suc, _+_, _-_, _*_, _%_, _^_}
 use lib.ListN.{length, getD, take, drop, set, replicate}
@@ -79,6 +79,12 @@ settingsIn s =
 
 unfoldable pub lengthsIn : List ℕ → Lengths
 lengthsIn s = record { rows = getD s 13 0; store = getD s 14 0; free = getD s 15 0; ready = getD s 16 0; owners = getD s 17 0; pool = getD s 18 0 }
+
+-- "A later call with another length of row memory or pool gets 13 first": the lengths are those that the opening was given. Words too few to hold
+-- them are another length too.
+unfoldable pub sameLengths : Lengths → List ℕ → Bool
+sameLengths l s =
+    leb 48 (length s) && (eqb (l .rows) (getD s 13 0) && (eqb (l .store) (getD s 14 0) && (eqb (l .free) (getD s 15 0) && (eqb (l .ready) (getD s 16 0) && (eqb (l .owners) (getD s 17 0) && eqb (l .pool) (getD s 18 0))))))
 
 unfoldable pub opIn : ℕ → Op
 opIn n = pick (eqb n 0) noOp (pick (eqb n 1) readOp (pick (eqb n 2) writeOp flushOp))
@@ -212,6 +218,6 @@ unfoldable pub openedLent : Opening → List ℕ → Lent → Lent
 openedLent o plan l =
     record { rows = rowsOpened (o .depth) (l .rows); store = storeOpened o plan (lengthsOf l) (l .store); free = freeOpened (o .depth) (l .free); ready = readyOpened (l .ready); owners = ownersOpened (o .buffers) (l .owners); pool = l .pool }
 
--- "On 13 nothing lent is changed"
+-- where a rule is broken nothing lent is changed
 unfoldable pub lentAfter : Opening → List ℕ → Lent → Lent
 lentAfter o plan l = pick (opens o plan (lengthsOf l)) (openedLent o plan l) l

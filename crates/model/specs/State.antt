@@ -23,7 +23,7 @@ pub record Region : Type 0 where
   pub readOnly : Bool
   pub forced : Bool
 
--- who has a buffer: the host; the table, from acceptance until its completion is taken; or nobody any more: "A buffer that did not come back is
+-- who has a buffer: the host; the table, from acceptance until the host gets it back; or nobody any more: "A buffer that did not come back is
 -- never accepted again."
 pub data Owner : Type 0 where
   host table lost : Owner

@@ -3,7 +3,7 @@
 use completion::WriteTicket;
 use regionmap::Position;
 
-// What an operation in flight is, in the region's positions (optable.rs's Kind, without appends and barriers).
+// What an operation in flight is, in the region's positions (optable.rs's Kind, without appends and barriers): Page is a write.
 pub enum Kind {
     Page { start: Position, end: Position },
     Read { start: Position, end: Position },

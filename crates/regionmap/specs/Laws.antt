@@ -8,7 +8,8 @@ use lib.ListN.{length}
 use Rattle.regionmap.specs.Map.{Map, Span, runOf, place, pieceSize, Piece, pieces, ascends, spans, Extent, extents, apart, allApart, allWithin}
 use Rattle.regionmap.specs.Words.{wrap64}
 
--- what the opening's rules say of one map
+-- the two of the opening's rules on one map that its laws need: "Starts strictly ascend, above 0 and below the capacity", and "a data length of at
+-- most the capacity"
 pub record Lawful (m : Map) : Type 0 where
   pub rising : ascends 0 (m .more) (m .capacity) ≡ true
   pub within : m .dataLength ≤ m .capacity
@@ -18,13 +19,13 @@ pub record Holds (s : Span) (p : ℕ) : Type 0 where
   pub from : s .start ≤ p
   pub before : p < s .end
 
--- "a position below the data length has exactly one card offset": it lies in one of the map's runs and in no other
+-- a position below the capacity, and so each below the data length, has exactly one card offset: it lies in one of the map's runs and in no other
 pub record OneRun (m : Map) (p : ℕ) : Type 0 where
   pub listed : List·Memᴰ (runOf m p) (spans m)
   pub holds : Holds (runOf m p) p
   pub only : (s : Span) → List·Memᴰ s (spans m) → Holds s p → s ≡ runOf m p
 
--- "a piece never crosses a run, is never empty, and its bytes are consecutive on the card"
+-- a piece never crosses a run, is never empty, and its bytes are consecutive on the card
 pub record OnePiece (m : Map) (p left : ℕ) : Type 0 where
   pub some : 0 < pieceSize m p left
   pub most : pieceSize m p left ≤ left
@@ -44,7 +45,7 @@ Separate xs ys = (x y : Extent) → List·Memᴰ x xs → List·Memᴰ y ys → 
 pub record MapLaws : Type 0 where
   pub one-run : (m : Map) → Lawful m → (p : ℕ) → p < m .capacity → OneRun m p
   pub one-piece : (m : Map) → Lawful m → (p left : ℕ) → 0 < left → p < m .dataLength → OnePiece m p left
-  -- "the pieces of a range, in order, cover it exactly once and are finitely many"
+  -- the pieces of a range, in order, cover it exactly once and are finitely many
   pub covered : (m : Map) → Lawful m → (p n : ℕ) → p + n ≤ m .dataLength → Chain m p (pieces m p n) (p + n)
   pub finite : (m : Map) (p n : ℕ) → length (pieces m p n) ≤ n
   -- two positions of a map whose runs share no card byte have two card offsets

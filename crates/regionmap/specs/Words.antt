@@ -20,7 +20,7 @@ runsIn (suc n) ws = record { start = getD ws 0 0; offset = getD ws 1 0 } ∷ run
 unfoldable pub mapIn : List ℕ → Map
 mapIn ws = record { first = getD ws 0 0; more = runsIn (getD ws 3 0) (drop 4 ws); capacity = getD ws 1 0; dataLength = getD ws 2 0 }
 
--- the words hold all of the map's runs, and the starts ascend: what the opening makes sure of
+-- the words hold all of the map's runs, and the starts ascend: true of the words of each region of an opened table (the model's Laws, held)
 pub record HoldsMap (ws : List ℕ) : Type 0 where
   pub room : 4 + 2 * getD ws 3 0 ≤ length ws
   pub rising : ascends 0 (mapIn ws .more) (mapIn ws .capacity) ≡ true
@@ -45,7 +45,7 @@ offsetOf n = record { 0 = n }
 unfoldable pub foundOf : Span → FoundRun
 foundOf s = record { start = positionOf (s .start); file = offsetOf (s .offset); end = positionOf (s .end) }
 
--- a card offset as a number of 64 bits; that of a position below the data length is its own (Laws)
+-- a card offset as a number of 64 bits; that of a position below the capacity of a map that lies within the card is its own (Laws, fits)
 unfoldable pub wrap64 : ℕ → ℕ
 wrap64 n = n % 2 ^ 64
 

@@ -12,7 +12,8 @@ pub struct Position(pub u64);
 // An offset: it counts on the card.
 pub struct Offset(pub u64);
 
-// The run of a position: its start, its card offset and its end (the triple of RegionMap::run_of).
+// The run of a position: its start, its card offset and its end (the triple of RegionMap::run_of). The end is the next start or the capacity;
+// run_end cuts it to the data length.
 pub struct FoundRun {
     pub start: Position,
     pub file: Offset,

@@ -1,4 +1,4 @@
--- The regions of a plan from the h-th on: what the loops over a plan have left to look at.
+-- The regions of a plan from the h-th on: what the loops over a plan have left to look at. For the code, not of the paper.
 use mathlib.Core.List.{List, map}
 use Prim.Native.Nat.{ℕ, _-_, _*_}
 use lib.ListN.{drop}

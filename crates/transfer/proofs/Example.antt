@@ -11,7 +11,7 @@ use borrow.Author.Tests.{le-leb, lt-leb}
 use Rattle.layout.specs.Pick.{pick}
 use Rattle.regionmap.specs.Map.{Map, spanFrom, runOf, runEnd, runLeft, place, pieceSize, piecesUpTo, pieces, ascends}
 use Rattle.regionmap.specs.Laws.{Lawful, MapLaws}
-use Rattle.transfer.specs.Transfer.{Media, Operation, wrote, readIn, whole, Accepted, Distinct, OneWrite, OneRead}
+use Rattle.transfer.specs.Transfer.{CardAndPool, Operation, wrote, readIn, whole, Accepted, Distinct, OneWrite, OneRead}
 use Rattle.transfer.proofs.Theorem.{transfers-by}
 
 -- "first offset 1,024, one further run (1,024, 8,192), capacity and data 2,048"
@@ -59,10 +59,10 @@ pub distinct-512 : Distinct (operation 512)
 distinct-512 = distinct 512 (lit≤ tt)
 
 -- so 1,024 bytes written at any position that has as many behind it are one write, and read there one read
-pub one-write : MapLaws → (start : ℕ) → start ≤ 1024 → (s : Media) → length (s .pool) ≡ 6144 → OneWrite (operation start) s (whole wrote (operation start) s)
+pub one-write : MapLaws → (start : ℕ) → start ≤ 1024 → (s : CardAndPool) → length (s .pool) ≡ 6144 → OneWrite (operation start) s (whole wrote (operation start) s)
 one-write laws start h s e = transfers-by laws .write (operation start) s (accepted start h (s .pool) e) (distinct start h)
 
-pub one-read : MapLaws → (start : ℕ) → start ≤ 1024 → (s : Media) → length (s .pool) ≡ 6144 → OneRead (operation start) s (whole readIn (operation start) s)
+pub one-read : MapLaws → (start : ℕ) → start ≤ 1024 → (s : CardAndPool) → length (s .pool) ≡ 6144 → OneRead (operation start) s (whole readIn (operation start) s)
 one-read laws start h s e = transfers-by laws .read (operation start) s (accepted start h (s .pool) e)
 
 -- "piece (1,536, 512)" and "piece (8,192, 512)", by their positions

@@ -11,7 +11,7 @@ use Rattle.regionmap.specs.Laws.{MapLaws}
 use Rattle.iobuf.specs.Turn.{withStretch}
 use Rattle.posix.specs.Posix.{Card, pread}
 use Rattle.posix.proofs.Laws.{transfer-laws}
-use Rattle.transfer.specs.Transfer.{Media, Operation, bufferIn, readIn, whole, Accepted, gathered, OneRead}
+use Rattle.transfer.specs.Transfer.{CardAndPool, Operation, bufferIn, readIn, whole, Accepted, gathered, OneRead}
 use Rattle.transfer.proofs.Step.{First, tail, lying, front-length, lying-buffer, lying-with}
 use Rattle.transfer.proofs.Walk.{Takes, Joins, walk-whole}
 
@@ -75,7 +75,7 @@ taken o pool ok done x xs f rest before s l r fits =
           ∙ ap (λ (z : List ℕ). withStretch (o .capacity) (o .buffer) z pool) bytes;
     }
 
-pub read : MapLaws → (o : Operation) (s : Media) → Accepted o (s .pool) → OneRead o s (whole readIn o s)
+pub read : MapLaws → (o : Operation) (s : CardAndPool) → Accepted o (s .pool) → OneRead o s (whole readIn o s)
 read laws o s ok =
     let none : (done : ℕ) (a : Card) → Brought o done [] [] a a = λ done a. unfold gathered in record { came = refl; stayed = refl } in
     let end = walk-whole laws o readIn (Brought o) s ok (record { none = none; piece = taken o (s .pool) ok; both = brought-both o (s .pool) }) in

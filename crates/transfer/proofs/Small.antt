@@ -7,14 +7,14 @@ use Rattle.layout.specs.Pick.{pick}
 use Rattle.regionmap.specs.Map.{spanFrom, runOf, runEnd, runLeft, place, pieceSize, piecesUpTo, pieces}
 use Rattle.iobuf.specs.Turn.{turned, stretch, withStretch, turnedIn}
 use Rattle.posix.specs.Posix.{pread, within, pwrite}
-use Rattle.transfer.specs.Transfer.{Media, Operation, wrote, readIn, turnAfter, transferred, whole}
+use Rattle.transfer.specs.Transfer.{CardAndPool, Operation, wrote, readIn, turnAfter, transferred, whole}
 
 -- five bytes at position 1, of the second of two buffers of six bytes
 abbrev pub small : Operation
 small = record { map = record { first = 100; more = record { start = 2; offset = 200 } ∷ record { start = 3; offset = 300 } ∷ []; capacity = 7; dataLength = 7 }; capacity = 6; buffer = 1; start = 1; total = 5 }
 
 -- the pool's bytes, and a card whose every byte is its offset
-abbrev pub at-first : Media
+abbrev pub at-first : CardAndPool
 at-first = record { card = λ x. x; pool = 10 ∷ 11 ∷ 12 ∷ 13 ∷ 14 ∷ 15 ∷ 16 ∷ 17 ∷ 18 ∷ 19 ∷ 20 ∷ 21 ∷ [] }
 
 -- the card's bytes of the range, and those beside them

@@ -8,21 +8,21 @@ use lib.ListN.{length, take, drop, length-append, length-drop}
 use Rattle.regionmap.specs.Map.{Piece, pieces}
 use Rattle.regionmap.specs.Laws.{MapLaws}
 use Rattle.posix.specs.Posix.{Card}
-use Rattle.transfer.specs.Transfer.{Media, Operation, turnAfter, transferred, whole, Accepted}
+use Rattle.transfer.specs.Transfer.{CardAndPool, Operation, turnAfter, transferred, whole, Accepted}
 use Rattle.transfer.proofs.Step.{Left, left-none, First, first, all-left, front, lying, front-length, lying-first, after-piece}
 
 -- an operation whose piece is taken whole by f. Moved done bytes new a b says of its bytes from done on that they were bytes and became new,
 -- while the card a became b
-module _ (o : Operation) (f : Operation → Piece → Media → Media) (Moved : ℕ → List ℕ → List ℕ → Card → Card → Type 0) (pool : List ℕ) where
+module _ (o : Operation) (f : Operation → Piece → CardAndPool → CardAndPool) (Moved : ℕ → List ℕ → List ℕ → Card → Card → Type 0) (pool : List ℕ) where
   -- a piece, with the bytes that it leaves at the front of the buffer
-  pub record Taken (done : ℕ) (x : Piece) (rest before : List ℕ) (s : Media) : Type 0 where
+  pub record Taken (done : ℕ) (x : Piece) (rest before : List ℕ) (s : CardAndPool) : Type 0 where
     pub new : List ℕ
     pub long : length new ≡ x .count
     pub moved : Moved done (take (x .count) rest) new (s .card) (f o x s .card)
     pub brought : f o x s .pool ≡ lying o pool (new ++ drop (x .count) rest) before
 
   abbrev pub Takes : Type 0
-  Takes = (done : ℕ) (x : Piece) (xs : List Piece) → First o done x xs → (rest before : List ℕ) (s : Media) → s .pool ≡ lying o pool rest before → length rest + length before ≡ o .total → x .count ≤ length rest
+  Takes = (done : ℕ) (x : Piece) (xs : List Piece) → First o done x xs → (rest before : List ℕ) (s : CardAndPool) → s .pool ≡ lying o pool rest before → length rest + length before ≡ o .total → x .count ≤ length rest
       → Taken done x rest before s
 
   -- a piece and those behind it
@@ -36,13 +36,13 @@ module _ (o : Operation) (f : Operation → Piece → Media → Media) (Moved : 
     pub both : Joins
 
   -- what is left is moved, and the buffer is in its first arrangement
-  pub record Walked (done : ℕ) (rest before : List ℕ) (a : Card) (after : Media) : Type 0 where
+  pub record Walked (done : ℕ) (rest before : List ℕ) (a : Card) (after : CardAndPool) : Type 0 where
     pub new : List ℕ
     pub moved : Moved done rest new a (after .card)
     pub arranged : after .pool ≡ lying o pool [] (before ++ new)
 
-module _ (laws : MapLaws) (o : Operation) (f : Operation → Piece → Media → Media) (Moved : ℕ → List ℕ → List ℕ → Card → Card → Type 0) (pool : List ℕ) (ok : Accepted o pool) (moves : Moves o f Moved pool) where
-  join : (done : ℕ) (x : Piece) (rest before : List ℕ) (s after : Media) → x .count ≤ length rest → done + length rest ≡ o .total → (t : Taken o f Moved pool done x rest before s)
+module _ (laws : MapLaws) (o : Operation) (f : Operation → Piece → CardAndPool → CardAndPool) (Moved : ℕ → List ℕ → List ℕ → Card → Card → Type 0) (pool : List ℕ) (ok : Accepted o pool) (moves : Moves o f Moved pool) where
+  join : (done : ℕ) (x : Piece) (rest before : List ℕ) (s after : CardAndPool) → x .count ≤ length rest → done + length rest ≡ o .total → (t : Taken o f Moved pool done x rest before s)
       → Walked o f Moved pool (done + x .count) (drop (x .count) rest) (before ++ t .new) (f o x s .card) after → Walked o f Moved pool done rest before (s .card) after
   join done x rest before s after fits r t more =
       record {
@@ -51,7 +51,7 @@ module _ (laws : MapLaws) (o : Operation) (f : Operation → Piece → Media →
         arranged = more .arranged ∙ ap (lying o pool []) (append-assoc before (t .new) (more .new));
       }
 
-  walk : (xs : List Piece) (done : ℕ) (rest before : List ℕ) (s : Media) → s .pool ≡ lying o pool rest before → length before ≡ done → length before + length rest ≡ o .total → Left o done xs
+  walk : (xs : List Piece) (done : ℕ) (rest before : List ℕ) (s : CardAndPool) → s .pool ≡ lying o pool rest before → length before ≡ done → length before + length rest ≡ o .total → Left o done xs
       → Walked o f Moved pool done rest before (s .card) (transferred f o done xs s)
   unfolding transferred
   walk [] done [] before s l b r c = record { new = []; moved = moves .none done (s .card); arranged = l ∙ ap (lying o pool []) (sym (append-nil before)) }
@@ -67,7 +67,7 @@ module _ (laws : MapLaws) (o : Operation) (f : Operation → Piece → Media →
       (walk xs (done + x .count) (drop (x .count) rest) (before ++ t .new) (record { card = f o x s .card; pool = turnAfter o done x xs (f o x s .pool) }) lies (rw length-append (omega arith)) (rw length-append (omega arith)) (h .follow))
 
 -- all pieces
-pub walk-whole : MapLaws → (o : Operation) (f : Operation → Piece → Media → Media) (Moved : ℕ → List ℕ → List ℕ → Card → Card → Type 0) (s : Media) → Accepted o (s .pool) → Moves o f Moved (s .pool)
+pub walk-whole : MapLaws → (o : Operation) (f : Operation → Piece → CardAndPool → CardAndPool) (Moved : ℕ → List ℕ → List ℕ → Card → Card → Type 0) (s : CardAndPool) → Accepted o (s .pool) → Moves o f Moved (s .pool)
     → Walked o f Moved (s .pool) 0 (front o (s .pool)) [] (s .card) (whole f o s)
 unfolding whole
 walk-whole laws o f Moved s ok moves =

@@ -11,7 +11,7 @@ use Rattle.regionmap.specs.Map.{Piece, place}
 use Rattle.regionmap.specs.Laws.{MapLaws}
 use Rattle.posix.specs.Posix.{Card, pwrite}
 use Rattle.posix.proofs.Laws.{transfer-laws}
-use Rattle.transfer.specs.Transfer.{Media, Operation, bufferIn, wrote, whole, Accepted, Distinct, OneWrite}
+use Rattle.transfer.specs.Transfer.{CardAndPool, Operation, bufferIn, wrote, whole, Accepted, Distinct, OneWrite}
 use Rattle.transfer.proofs.Step.{First, tail, lying, front-length, lying-first, lying-buffer}
 use Rattle.transfer.proofs.Walk.{Takes, Joins, walk-whole}
 
@@ -68,7 +68,7 @@ taken o pool ok done x xs f rest before s l r fits =
       brought = l ∙ ap (λ (z : List ℕ). lying o pool z before) (sym (take-append-drop n rest));
     }
 
-pub write : MapLaws → (o : Operation) (s : Media) → Accepted o (s .pool) → Distinct o → OneWrite o s (whole wrote o s)
+pub write : MapLaws → (o : Operation) (s : CardAndPool) → Accepted o (s .pool) → Distinct o → OneWrite o s (whole wrote o s)
 write laws o s ok distinct =
     let none : (done : ℕ) (a : Card) → Arrived o done [] [] a a = λ done a. record { same = refl; arrived = λ i h. absurd (omega arith); others = λ x away. refl } in
     let end = walk-whole laws o wrote (Arrived o) s ok (record { none = none; piece = taken o (s .pool) ok; both = arrived-both o (s .pool) distinct }) in

@@ -1,5 +1,6 @@
--- Demand 2 for one range: "the pieces of an accepted page operation, each taken whole with its buffer back .., act together like one transfer
--- of every byte to or from its mapped card offset, and touch no other byte."
+-- Demand 2 for one range: "the pieces of an accepted page operation, each taken whole with its buffer back and no other operation writing its
+-- bytes meanwhile, act together like one transfer of every byte to or from its mapped card offset, and touch no other byte."
+-- Here nothing at all happens to card or pool between the pieces; what other calls do meanwhile comes with the calls.
 -- The pieces are the map's, transferred one after another by pread and pwrite; between two of them the operation's bytes turn as document 01
 -- says. Nothing is supposed of the block: the start may be any position.
 use mathlib.Core.Path.{_≡_}
@@ -12,7 +13,7 @@ use Rattle.iobuf.specs.Turn.{stretch, withStretch, turnedIn}
 use Rattle.posix.specs.Posix.{Card, pread, pwrite}
 
 -- the card's bytes and the pool's
-pub record Media : Type 0 where
+pub record CardAndPool : Type 0 where
   pub card : Card
   pub pool : List ℕ
 
@@ -29,11 +30,11 @@ abbrev pub bufferIn : Operation → List ℕ → List ℕ
 bufferIn o pool = stretch (o .capacity) (o .buffer) pool
 
 -- a write's piece taken whole: "Its bytes are the first count bytes of the buffer."
-unfoldable pub wrote : Operation → Piece → Media → Media
+unfoldable pub wrote : Operation → Piece → CardAndPool → CardAndPool
 wrote o x s = record { card = pwrite (s .card) (place (o .map) (x .position)) (take (x .count) (bufferIn o (s .pool))); pool = s .pool }
 
 -- a read's piece taken whole: the card's bytes come to the front of the buffer
-unfoldable pub readIn : Operation → Piece → Media → Media
+unfoldable pub readIn : Operation → Piece → CardAndPool → CardAndPool
 readIn o x s =
     record { card = s .card; pool = withStretch (o .capacity) (o .buffer) (pread (s .card) (place (o .map) (x .position)) (x .count) ++ drop (x .count) (bufferIn o (s .pool))) (s .pool) }
 
@@ -44,12 +45,12 @@ turnAfter o done x [] pool = turnedIn (o .capacity) (o .buffer) (o .total) (o .t
 turnAfter o done x (y ∷ ys) pool = turnedIn (o .capacity) (o .buffer) (o .total) (x .count) pool
 
 -- pieces transferred one after another, done bytes before the first of them
-unfoldable pub transferred : (Operation → Piece → Media → Media) → Operation → ℕ → List Piece → Media → Media
+unfoldable pub transferred : (Operation → Piece → CardAndPool → CardAndPool) → Operation → ℕ → List Piece → CardAndPool → CardAndPool
 transferred f o done [] s = s
 transferred f o done (x ∷ xs) s = transferred f o (done + x .count) xs (record { card = f o x s .card; pool = turnAfter o done x xs (f o x s .pool) })
 
 -- all pieces of the operation
-unfoldable pub whole : (Operation → Piece → Media → Media) → Operation → Media → Media
+unfoldable pub whole : (Operation → Piece → CardAndPool → CardAndPool) → Operation → CardAndPool → CardAndPool
 whole f o s = transferred f o 0 (pieces (o .map) (o .start) (o .total)) s
 
 -- what a submission's questions and the opening make sure of
@@ -64,7 +65,7 @@ abbrev pub Distinct : Operation → Type 0
 Distinct o = (i j : ℕ) → i < o .total → j < o .total → place (o .map) (o .start + i) ≡ place (o .map) (o .start + j) → i ≡ j
 
 -- one transfer of every byte to its mapped card offset, and no other byte of the card or of the pool
-pub record OneWrite (o : Operation) (before after : Media) : Type 0 where
+pub record OneWrite (o : Operation) (before after : CardAndPool) : Type 0 where
   pub arrived : (i : ℕ) → i < o .total → after .card (place (o .map) (o .start + i)) ≡ getD (bufferIn o (before .pool)) i 0
   pub others : (x : ℕ) → ((i : ℕ) → i < o .total → place (o .map) (o .start + i) ≡ x → ⊥) → after .card x ≡ before .card x
   pub pool : after .pool ≡ before .pool
@@ -75,11 +76,11 @@ gathered card m p zero = []
 gathered card m p (suc n) = card (place m p) ∷ gathered card m (suc p) n
 
 -- one transfer of every byte from its mapped card offset, and no other byte of the pool or of the card
-pub record OneRead (o : Operation) (before after : Media) : Type 0 where
+pub record OneRead (o : Operation) (before after : CardAndPool) : Type 0 where
   pub card : (x : ℕ) → after .card x ≡ before .card x
   pub pool : after .pool
       ≡ withStretch (o .capacity) (o .buffer) (gathered (before .card) (o .map) (o .start) (o .total) ++ drop (o .total) (bufferIn o (before .pool))) (before .pool)
 
 pub record Transfers : Type 0 where
-  pub write : (o : Operation) (s : Media) → Accepted o (s .pool) → Distinct o → OneWrite o s (whole wrote o s)
-  pub read : (o : Operation) (s : Media) → Accepted o (s .pool) → OneRead o s (whole readIn o s)
+  pub write : (o : Operation) (s : CardAndPool) → Accepted o (s .pool) → Distinct o → OneWrite o s (whole wrote o s)
+  pub read : (o : Operation) (s : CardAndPool) → Accepted o (s .pool) → OneRead o s (whole readIn o s)
