@@ -1,3 +1,4 @@
 -- Proofs about the definitions of specs/.
 pub mod Rules
 pub mod Opened
+pub mod Maps

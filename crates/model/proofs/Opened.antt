@@ -30,7 +30,7 @@ front : {A : Type 0} (xs ys : List A) (n : ℕ) → length xs ≡ n → take n (
 unfolding over
 front xs ys n e = take-at xs (drop (length xs) ys) n e
 
-length-up : (k n : ℕ) → length (upFrom k n) ≡ n
+pub length-up : (k n : ℕ) → length (upFrom k n) ≡ n
 unfolding upFrom
 length-up k zero = refl
 length-up k (suc n) = ap suc (length-up (suc k) n)

@@ -2,7 +2,7 @@
 use mathlib.Core.Path.{_≡_}
 use mathlib.Core.Bool.{Bool, true, _&&_}
 use mathlib.Core.List.{List, [], _∷_}
-use Prim.Native.Nat.{ℕ, _*_, _≤_}
+use Prim.Native.Nat.{ℕ, _+_, _*_, _≤_}
 use lib.ListN.{length}
 use borrow.Author.Tests.{leb-true}
 use lib.Dec.{leb}
@@ -12,7 +12,7 @@ use Rattle.model.specs.declared.Opening.{Opening}
 use Rattle.model.specs.declared.Lengths.{Lengths}
 use Rattle.model.specs.Opening.{between, allTrue, numberRules, lengthRules, regionRules, admits}
 use Rattle.model.specs.Memory.{plansIn, listed, opens}
-use Rattle.model.specs.Meaning.{Numbers}
+use Rattle.model.specs.Meaning.{Numbers, Room}
 
 -- the first test, and the rest
 pub head-true : (x : Bool) (xs : List Bool) → allTrue (x ∷ xs) ≡ true → x ≡ true
@@ -59,6 +59,21 @@ pub listed-mean : (o : Opening) (plan : List ℕ) (l : Lengths) → allTrue (len
 unfolding lengthRules listed
 listed-mean o plan l h = leb-true _ _ (head-true _ _ (tail-true _ _ (tail-true _ _ h)))
 
+pub room-mean : (o : Opening) (plan : List ℕ) (l : Lengths) → allTrue (lengthRules o (listed o plan) l) ≡ true → Room o l
+unfolding lengthRules
+room-mean o plan l h =
+    let m₁ = head-true _ _ (tail-true _ _ h) in
+    let m₂ = and-right (leb (o .depth) (l .rows)) _ m₁ in
+    let m₃ = and-right (leb (48 + 70 * o .regions) (l .store)) _ m₂ in
+    let m₄ = and-right (leb (o .depth) (l .free)) _ m₃ in
+    record {
+      rows = leb-true _ _ (and-left (leb (o .depth) (l .rows)) _ m₁);
+      store = leb-true _ _ (and-left (leb (48 + 70 * o .regions) (l .store)) _ m₂);
+      free = leb-true _ _ (and-left (leb (o .depth) (l .free)) _ m₃);
+      ready = leb-true _ _ (and-left (leb (1 + 16 * o .depth) (l .ready)) _ m₄);
+      owners = leb-true _ _ (and-right (leb (1 + 16 * o .depth) (l .ready)) _ m₄)
+    }
+
 -- ---- the parts of an admitted opening
 
 module _ (o : Opening) (plan : List ℕ) (l : Lengths) (h : opens o plan l ≡ true) where
@@ -78,3 +93,6 @@ module _ (o : Opening) (plan : List ℕ) (l : Lengths) (h : opens o plan l ≡ t
 
   pub plan-listed : 70 * o .regions ≤ length plan
   plan-listed = listed-mean o plan l lengths-hold
+
+  pub room-holds : Room o l
+  room-holds = room-mean o plan l lengths-hold

@@ -1,7 +1,7 @@
 -- What the opening's rules on numbers mean, as propositions: used instead of the tests' text.
 use mathlib.Core.Path.{_≡_}
 use mathlib.Core.Bool.{true}
-use Prim.Native.Nat.{ℕ, _*_, _-_, _^_, _≤_}
+use Prim.Native.Nat.{ℕ, _+_, _*_, _-_, _^_, _≤_}
 use Rattle.layout.specs.Block.{isBlock, onBlock}
 use Rattle.model.specs.declared.Opening.{Opening}
 use Rattle.model.specs.declared.Lengths.{Lengths}
@@ -20,3 +20,11 @@ pub record Numbers (o : Opening) : Type 0 where
   pub some-regions : 1 ≤ o .regions
   pub most-regions : o .regions ≤ 8
   pub card : o .card ≤ 2 ^ 63 - 1
+
+-- the row memory is long enough
+pub record Room (o : Opening) (l : Lengths) : Type 0 where
+  pub rows : o .depth ≤ l .rows
+  pub store : 48 + 70 * o .regions ≤ l .store
+  pub free : o .depth ≤ l .free
+  pub ready : 1 + 16 * o .depth ≤ l .ready
+  pub owners : o .buffers ≤ l .owners

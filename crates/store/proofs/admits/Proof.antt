@@ -113,8 +113,7 @@ both-requires-2 : tie.Need-both-requires-2
 both-requires-2 c κs = search needs
 
 ids-rule-requires : tie.Need-ids-rule-requires
-ids-rule-requires c κs =
-    ?
+ids-rule-requires c κs = (long (c .before .before .before .before .before .before), numbers-mean (c .before .before .before .before .before .before .before .before .before .before .before .args .o) (numbers-true (c .before .before .before .before .before .before .before .before)) .most-regions)
 
 both-requires-3 : tie.Need-both-requires-3
 both-requires-3 c κs = search needs
@@ -122,7 +121,9 @@ both-requires-3 c κs = search needs
 returns-4 : tie.Need-returns-4
 unfolding withinRule apartRule
 returns-4 c =
-    ?
+    let a = c .before .before .before .before .before .before .before .before .before .before .before .before .before .args in
+    let all = behind-each (a .o) (a .plan .now) (a .l) (numbers-true (c .before .before .before .before .before .before .before .before .before .before)) (lengths-true (c .before .before .before .before .before .before .before .before)) (each-true (c .before .before .before .before .before .before)) in
+    cc all
 
 pub admits-spec : {M : Type 1} → statement M
 admits-spec =

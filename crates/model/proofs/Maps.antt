@@ -1,0 +1,119 @@
+-- The maps of an admitted opening: each is lawful, and no two positions share a card byte. The tests on the list of plans are read at each place of
+-- the list, by induction; the rest are the map's laws.
+use mathlib.Core.Path.{_≡_, refl, sym, ap, _∙_, subst}
+use mathlib.Core.Logic.{_≢_, ⊎-elim}
+use mathlib.Core.Bool.{Bool, true, _&&_}
+use mathlib.Core.List.{List, [], _∷_, _++_, List·Memᴰ, Memᴰ·append-left, Memᴰ·append-right}
+use Prim.Native.Nat.{ℕ, zero, suc, _-_, _+_, _≤_, _<_, _^_}
+use native.Mathlib.Nat.{not-suc-le-zero, le-of-suc-le-suc}
+use native.Mathlib.Decide.{decLt}
+use native.Mathlib.Omega.{arith}
+use borrow.Author.Tests.{leb-true}
+use lib.Dec.{leb, ltb}
+use lib.ListN.{length, getD, take, drop}
+use Rattle.layout.proofs.Tests.{and-left, and-right}
+use Rattle.regionmap.specs.Map.{Map, Extent, extents, ascends, allApart, allWithin, place}
+use Rattle.regionmap.specs.Laws.{Lawful, Separate}
+use Rattle.regionmap.proofs.Laws.{map-laws, extent-laws}
+use Rattle.model.specs.declared.Opening.{Opening}
+use Rattle.model.specs.declared.Lengths.{Lengths}
+use Rattle.model.specs.Opening.{Plan, generationRule, runsRule, sizesRule, startsRule, blocksRule, mapRule, regionRule, eachRegion, allExtents, idsRule, withinRule, apartRule, allTrue, regionRules}
+use Rattle.model.specs.Memory.{planIn, plansIn, opens}
+use Rattle.model.specs.Laws.{mapAt, OpenedMaps}
+use Rattle.model.proofs.Rules.{head-true, tail-true, numbers-hold, regions-hold}
+
+plans-length : (n : ℕ) (ws : List ℕ) → length (plansIn n ws) ≡ n
+unfolding plansIn
+plans-length zero ws = refl
+plans-length (suc n) ws = ap suc (plans-length n (drop 70 ws))
+
+-- one region's rules make its map lawful
+lawful-of : (b : ℕ) (p : Plan) → regionRule b p ≡ true → Lawful (p .map)
+unfolding regionRule mapRule
+lawful-of b p e =
+    let m = p .map in
+    let maps = and-right (generationRule p) _ e in
+    let behind = and-right (runsRule m) _ maps in
+    let sizes = and-left (sizesRule m) _ behind in
+    let starts = and-left (startsRule m) _ (and-right (sizesRule m) _ behind) in
+    record { rising = starts; within = leb-true _ _ (and-right (ltb 0 (m .capacity)) _ sizes) }
+
+module _ (d : Plan) where
+  -- the h-th plan's map
+  abbrev at : List Plan → ℕ → Map
+  at ps h = getD ps h d .map
+
+  each-lawful : (b : ℕ) (ps : List Plan) → eachRegion b ps ≡ true → (h : ℕ) → h < length ps → Lawful (at ps h)
+  unfolding eachRegion
+  each-lawful b [] e h l = absurd (not-suc-le-zero l)
+  each-lawful b (p ∷ ps) e zero l = lawful-of b p (and-left (regionRule b p) _ e)
+  each-lawful b (p ∷ ps) e (suc h) l = each-lawful b ps (and-right (regionRule b p) _ e) h (le-of-suc-le-suc l)
+
+  each-within : (c : ℕ) (ps : List Plan) → allWithin c (allExtents ps) ≡ true → (h : ℕ) → h < length ps → allWithin c (extents (at ps h)) ≡ true
+  unfolding allExtents
+  each-within c [] e h l = absurd (not-suc-le-zero l)
+  each-within c (p ∷ ps) e zero l = extent-laws .within-first c (extents (p .map)) (allExtents ps) e
+  each-within c (p ∷ ps) e (suc h) l = each-within c ps (extent-laws .within-second c (extents (p .map)) (allExtents ps) e) h (le-of-suc-le-suc l)
+
+  each-apart : (ps : List Plan) → allApart (allExtents ps) ≡ true → (h : ℕ) → h < length ps → allApart (extents (at ps h)) ≡ true
+  unfolding allExtents
+  each-apart [] e h l = absurd (not-suc-le-zero l)
+  each-apart (p ∷ ps) e zero l = extent-laws .apart-first (extents (p .map)) (allExtents ps) e
+  each-apart (p ∷ ps) e (suc h) l = each-apart ps (extent-laws .apart-second (extents (p .map)) (allExtents ps) e) h (le-of-suc-le-suc l)
+
+  among-all : (ps : List Plan) (h : ℕ) → h < length ps → (x : Extent) → List·Memᴰ x (extents (at ps h)) → List·Memᴰ x (allExtents ps)
+  unfolding allExtents
+  among-all [] h l x m = absurd (not-suc-le-zero l)
+  among-all (p ∷ ps) zero l x m = Memᴰ·append-left (allExtents ps) m
+  among-all (p ∷ ps) (suc h) l x m = Memᴰ·append-right (extents (p .map)) (among-all ps h (le-of-suc-le-suc l) x m)
+
+  separate : (ps : List Plan) → allApart (allExtents ps) ≡ true → (h k : ℕ) → h < k → k < length ps → Separate (extents (at ps h)) (extents (at ps k))
+  unfolding allExtents
+  separate [] e h k lt l = absurd (not-suc-le-zero l)
+  separate (p ∷ ps) e zero zero lt l = absurd (not-suc-le-zero lt)
+  separate (p ∷ ps) e zero (suc k) lt l =
+      λ x y mx my. extent-laws .apart-between (extents (p .map)) (allExtents ps) e x y mx (among-all ps k (le-of-suc-le-suc l) y my)
+  separate (p ∷ ps) e (suc h) zero lt l = absurd (not-suc-le-zero lt)
+  separate (p ∷ ps) e (suc h) (suc k) lt l = separate ps (extent-laws .apart-second (extents (p .map)) (allExtents ps) e) h k (le-of-suc-le-suc lt) (le-of-suc-le-suc l)
+
+module _ (o : Opening) (plan : List ℕ) (l : Lengths) (ok : opens o plan l ≡ true) where
+  abbrev ps : List Plan
+  ps = plansIn (o .regions) plan
+
+  abbrev none : Plan
+  none = planIn []
+
+  each : eachRegion (o .block) ps ≡ true
+  unfolding regionRules
+  each = head-true _ _ (regions-hold o plan l ok)
+
+  within : allWithin (o .card) (allExtents ps) ≡ true
+  unfolding regionRules withinRule
+  within = head-true _ _ (tail-true _ _ (tail-true _ _ (regions-hold o plan l ok)))
+
+  apart : allApart (allExtents ps) ≡ true
+  unfolding regionRules apartRule
+  apart = head-true _ _ (tail-true _ _ (tail-true _ _ (tail-true _ _ (regions-hold o plan l ok))))
+
+  inside : (h : ℕ) → h < o .regions → h < length ps
+  inside h lt = subst (λ (n : ℕ). h < n) (sym (plans-length (o .regions) plan)) lt
+
+  lawful : (h : ℕ) → h < o .regions → Lawful (mapAt o plan h)
+  lawful h lt = each-lawful none (o .block) ps each h (inside h lt)
+
+  -- of two regions one comes first
+  ordered : (h k p q : ℕ) → h < o .regions → k < o .regions → h < k → p < mapAt o plan h .capacity → q < mapAt o plan k .capacity → place (mapAt o plan h) p ≢ place (mapAt o plan k) q
+  ordered h k p q lh lk lt = map-laws .between (mapAt o plan h) (mapAt o plan k) (lawful h lh) (lawful k lk) (separate none ps apart h k lt (inside k lk)) p q
+
+  either-way : (h k p q : ℕ) → h < o .regions → k < o .regions → Dec (h < k) → h ≢ k → p < mapAt o plan h .capacity → q < mapAt o plan k .capacity → place (mapAt o plan h) p ≢ place (mapAt o plan k) q
+  either-way h k p q lh lk (yes lt) ne lp lq = ordered h k p q lh lk lt lp lq
+  either-way h k p q lh lk (no nlt) ne lp lq = λ e. ordered k h q p lk lh (omega arith) lq lp (sym e)
+
+  pub opened-maps : OpenedMaps o plan
+  opened-maps = record {
+    lawful = lawful;
+    apart = λ h p q lh. map-laws .injective (mapAt o plan h) (lawful h lh) (each-apart none ps apart h (inside h lh)) p q;
+    apart-regions = λ h k p q lh lk. either-way h k p q lh lk (decLt h k);
+    on-card = λ h p lh. map-laws .within-card (mapAt o plan h) (lawful h lh) (o .card) (each-within none (o .card) ps within h (inside h lh)) p;
+    fits = λ h p lh. map-laws .fits (mapAt o plan h) (lawful h lh) (o .card) (each-within none (o .card) ps within h (inside h lh)) (omega (arith, numbers-hold o plan l ok .card)) p;
+  }
