@@ -19,8 +19,8 @@ use Rattle.submitter.proofs.Opened as Replied
 use Rattle.submitter.proofs.Opened.Laws as RepliedLaws
 
 -- what is given
-abbrev pub Given-row : RattleType
-Given-row = Asked.the-row
+abbrev pub Opening-row : RattleType
+Opening-row = Asked.the-row
 
 abbrev pub val : Opening → Val
 val = Struct.val Asked.the-type AskedLaws.the-laws
@@ -28,16 +28,16 @@ val = Struct.val Asked.the-type AskedLaws.the-laws
 abbrev pub vals : Opening → List Val
 vals = Struct.vals Asked.the-type AskedLaws.the-laws
 
-pub tells : Tells Given-row (Is Given-row) vals
+pub tells : Tells Opening-row (Is Opening-row) vals
 tells = Struct.tells Asked.the-type AskedLaws.the-laws
 
 -- the reply
-abbrev pub Reply-row : RattleType
-Reply-row = Replied.the-row
+abbrev pub Opened-row : RattleType
+Opened-row = Replied.the-row
 
 module _ {M : Type 1} (𝓤 : URA M) (H : Heap 𝓤) (A : Atoms 𝓤) (W : Given 𝓤 H A) where
-  pub given-typed : (o : Opening) (v : Val) → Is Given-row o (v ∷ []) → T (hasTy AskedLaws.mir v) × WT v
-  given-typed o v g = Struct.lawful Asked.the-type AskedLaws.the-laws 𝓤 H A W .typed o _ g .0
+  pub opening-typed : (o : Opening) (v : Val) → Is Opening-row o (v ∷ []) → T (hasTy AskedLaws.mir v) × WT v
+  opening-typed o v g = Struct.lawful Asked.the-type AskedLaws.the-laws 𝓤 H A W .typed o _ g .0
 
-  pub reply-typed : (r : Opened) (v : Val) → Is Reply-row r (v ∷ []) → T (hasTy RepliedLaws.mir v) × WT v
-  reply-typed r v g = Enum.lawful Replied.the-type RepliedLaws.the-laws 𝓤 H A W tt .typed r _ g .0
+  pub opened-typed : (r : Opened) (v : Val) → Is Opened-row r (v ∷ []) → T (hasTy RepliedLaws.mir v) × WT v
+  opened-typed r v g = Enum.lawful Replied.the-type RepliedLaws.the-laws 𝓤 H A W tt .typed r _ g .0

@@ -18,7 +18,7 @@ use prog.Wp.{Heap, Calls, Loops, WpFn, Tables}
 use ghost.Atoms.{Atoms, sem}
 use contract.Monad.{Fun, fact}
 use contract.Running.{givenOf, tables, tablesOf}
-use types.Kit.{Given, Item, ‵, raw, some, later, _⊛_, ⋆, _$_, _∵_, !, qed, by, move, keep, drop, use1, use2, group, split, join, pick, rewrite, fsplit, fjoin, feqL, suffices, frame, await, done}
+use types.Kit.{Given, Item, ‵, raw, some, later, _⊛_, ⋆, _$_, _∵_, !, qed, by, move, keep, drop, use1, use2, group, split, join, pick, rewrite, fsplit, feqL, suffices, frame, await, done}
 use types.Part.{agg, whole, sub, look-in}
 use types.Run.{look, init, forget, stop, hop, fld, from, load, addr, of-opd, and-then, no-more, assigns, land, returns, enter, alloc1, alloc0, params1, pass1, pass0, free1, free0}
 use sound.WpLaws.{FmC, fmOf, WpFn-mono}
@@ -52,9 +52,9 @@ use Rattle.optable.proofs.new.Symbol as new-def
 use Rattle.optable.proofs.new.Symbol.{name as #optable·new}
 use Rattle.optable.proofs.new.Met as new-thm
 use Rattle.submitter.specs.declared.Opened.{Opened}
-use Rattle.submitter.specs.Open.{openedWith, lentOf, OpensTo}
+use Rattle.submitter.specs.Open.{openedWith}
 use Rattle.submitter.proofs.Opening.{opens-to}
-use Rattle.submitter.proofs.Values.{Given-row, Reply-row, val, vals, tells, given-typed, reply-typed}
+use Rattle.submitter.proofs.Values.{Opening-row, Opened-row, val, vals, tells, opening-typed, opened-typed}
 use Rattle.submitter.proofs.reply as reply
 use Rattle.submitter.proofs.reply.Symbol as reply-def
 use Rattle.submitter.proofs.reply.Symbol.{name as #submitter·reply}
@@ -74,7 +74,7 @@ Arg = Opening × (Words × (RefT (List Row) × (Words × (Words × (Words × (Wo
 -- what is had of each at exit: what is passed on is given up
 abbrev stayed : Stays (self.ended .signature .params) (self.ended .kept)
 stayed = (
-  stay-dropped (plain (λ _. Given-row)) yes,
+  stay-dropped (plain (λ _. Opening-row)) yes,
   (
     stay-dropped (shrSliceOf (0 ∷ []) tt (plain (λ _. u64))) yes,
     (
@@ -138,10 +138,10 @@ module _ {M : Type 1} (𝓤 : URA M) (H : Heap 𝓤) (A : Atoms 𝓤) (W : Given
 
   exits : (depth : ℕ) (r : Opened) (w : Val) (rows′ : List Row) (store′ free′ ready′ owners′ : List ℕ) → Did depth store′ free′ ready′ owners′ → rows′ ≡ rowsOpened (min depth (length (rows .now))) (rows .now) → r ≡ openedWith depth
       → length rows′ ≡ length (rows .now) → length store′ ≡ length (store .now) → length free′ ≡ length (free .now) → length ready′ ≡ length (ready .now) → length owners′ ≡ length (owners .now)
-      → ent 𝓤 (⋆ 𝓤 H A (Tokens ∷ (‵ (flft κ₁ q₁) ⊛ ‵ ftrue) ∷ ‵ (flft κ₆ q₆) ∷ ‵ (finally R (rows .name) rows′) ∷ ‵ (finally u64 (store .name) store′) ∷ ‵ (finally u64 (free .name) free′) ∷ ‵ (finally u64 (ready .name) ready′) ∷ ‵ (finally u64 (owners .name) owners′) ∷ ‵ (Reply-row .own r (w ∷ [])) ∷ []))
+      → ent 𝓤 (⋆ 𝓤 H A (Tokens ∷ (‵ (flft κ₁ q₁) ⊛ ‵ ftrue) ∷ ‵ (flft κ₆ q₆) ∷ ‵ (finally R (rows .name) rows′) ∷ ‵ (finally u64 (store .name) store′) ∷ ‵ (finally u64 (free .name) free′) ∷ ‵ (finally u64 (ready .name) ready′) ∷ ‵ (finally u64 (owners .name) owners′) ∷ ‵ (Opened-row .own r (w ∷ [])) ∷ []))
       (Post w)
   exits depth r w rows′ store′ free′ ready′ owners′ did freed replied rows-long store-long free-long ready-long owners-long =
-      qed W (Tokens ∷ (‵ (flft κ₁ q₁) ⊛ ‵ ftrue) ∷ ‵ (flft κ₆ q₆) ∷ ‵ (finally R (rows .name) rows′) ∷ ‵ (finally u64 (store .name) store′) ∷ ‵ (finally u64 (free .name) free′) ∷ ‵ (finally u64 (ready .name) ready′) ∷ ‵ (finally u64 (owners .name) owners′) ∷ ‵ (Reply-row .own r (w ∷ [])) ∷ []) ∵
+      qed W (Tokens ∷ (‵ (flft κ₁ q₁) ⊛ ‵ ftrue) ∷ ‵ (flft κ₆ q₆) ∷ ‵ (finally R (rows .name) rows′) ∷ ‵ (finally u64 (store .name) store′) ∷ ‵ (finally u64 (free .name) free′) ∷ ‵ (finally u64 (ready .name) ready′) ∷ ‵ (finally u64 (owners .name) owners′) ∷ ‵ (Opened-row .own r (w ∷ [])) ∷ []) ∵
       suffices ! _ (ends-at 𝓤 H A self.ended stayed (self.clauses 𝓤 H A mem run) W (((κ₀, (κ₁, (κ₂, (κ₃, (κ₄, (κ₅, (κ₆, tt))))))), (q₀, (q₁, (q₂, (q₃, (q₄, (q₅, (q₆, tt))))))), tt, a, at), tt) w r
       (tt, (tt, (rows′, (store′, (free′, (ready′, (owners′, (tt, tt)))))))) (tt, (tt, (rows-long, (store-long, (free-long, (ready-long, (owners-long, (tt, tt))))))))) $
       says ! (opens-to o (plan .now) (rows .now) (store .now) (free .now) (ready .now) (owners .now) (pool .now) depth r rows′ store′ free′ ready′ owners′ did freed replied) $
@@ -162,17 +162,16 @@ module _ {M : Type 1} (𝓤 : URA M) (H : Heap 𝓤) (A : Atoms 𝓤) (W : Given
   Last-prepare = Unit {0} × (Unit {0} × (Unit {0} × (List ℕ × (List ℕ × (List ℕ × (List ℕ × (Unit {0} × Unit {0})))))))
 
   abbrev to-prepare : Prepare 𝓤 H A mem run .Ghost
-  to-prepare =
-      (
-        (
-          κs-prepare,
-          (q₀, (q₂, (q₃, (q₄, (q₅, tt))))),
-          tt,
-          args-prepare,
-          (vals o, (count plan ∷ [], (vint w64 (length (rows .now)) ∷ [], (count store ∷ [], (count free ∷ [], (count ready ∷ [], (count owners ∷ [], (vint w64 (length (pool .now)) ∷ [], tt)))))))),
-        ),
-        tt,
-      )
+  to-prepare = (
+    (
+      κs-prepare,
+      (q₀, (q₂, (q₃, (q₄, (q₅, tt))))),
+      tt,
+      args-prepare,
+      (vals o, (count plan ∷ [], (vint w64 (length (rows .now)) ∷ [], (count store ∷ [], (count free ∷ [], (count ready ∷ [], (count owners ∷ [], (vint w64 (length (pool .now)) ∷ [], tt)))))))),
+    ),
+    tt,
+  )
 
   -- at entry: what `prepare` asks, and what is left
   begins : Rooms plan rows store free ready owners pool
@@ -180,7 +179,7 @@ module _ {M : Type 1} (𝓤 : URA M) (H : Heap 𝓤) (A : Atoms 𝓤) (W : Given
       (⋆ 𝓤 H A (raw (Prepare 𝓤 H A mem run .pre to-prepare) ∷ ‵ (flft κ₁ q₁) ∷ ‵ (flft κ₆ q₆) ∷ ‵ (MutSlice (named 1) κ₁ R .own rows (count rows ∷ [])) ∷ []))
   begins rooms =
       qed W ((‵ (flft κ₀ q₀) ⊛ ‵ (flft κ₁ q₁) ⊛ ‵ (flft κ₂ q₂) ⊛ ‵ (flft κ₃ q₃) ⊛ ‵ (flft κ₄ q₄) ⊛ ‵ (flft κ₅ q₅) ⊛ ‵ (flft κ₆ q₆) ⊛ ‵ ftrue)
-      ∷ ‵ (owns (Given-row ∷ ShrSlice (named 0) κ₀ u64 ∷ MutSlice (named 1) κ₁ R ∷ MutSlice (named 2) κ₂ u64 ∷ MutSlice (named 3) κ₃ u64 ∷ MutSlice (named 4) κ₄ u64 ∷ MutSlice (named 5) κ₅ u64 ∷ ShrSlice (named 6) κ₆ u8 ∷ []) a at) ∷ []) ∵
+      ∷ ‵ (owns (Opening-row ∷ ShrSlice (named 0) κ₀ u64 ∷ MutSlice (named 1) κ₁ R ∷ MutSlice (named 2) κ₂ u64 ∷ MutSlice (named 3) κ₃ u64 ∷ MutSlice (named 4) κ₄ u64 ∷ MutSlice (named 5) κ₅ u64 ∷ ShrSlice (named 6) κ₆ u8 ∷ []) a at) ∷ []) ∵
       split ! $ move ! (1 ∷ []) $ split ! $ move ! (1 ∷ []) $ split ! $ move ! (1 ∷ []) $ split ! $ move ! (1 ∷ []) $ split ! $ move ! (1 ∷ []) $ split ! $ move ! (1 ∷ []) $ split ! $
       -- [κ₆; true; κ₅; κ₄; κ₃; κ₂; κ₁; κ₀; what the parameters own]
       move ! (8 ∷ []) $ fsplit ! $ move ! (1 ∷ []) $ fsplit ! $ move ! (1 ∷ []) $ fsplit ! $ move ! (1 ∷ []) $ fsplit ! $ move ! (1 ∷ []) $ fsplit ! $ move ! (1 ∷ []) $ fsplit ! $ move ! (1 ∷ []) $ fsplit ! $ move ! (1 ∷ []) $ fsplit ! $
@@ -205,12 +204,12 @@ module _ {M : Type 1} (𝓤 : URA M) (H : Heap 𝓤) (A : Atoms 𝓤) (W : Given
   goes-reply d = qed W (‵ (usize .own d (vint w64 d ∷ [])) ∷ []) ∵ nothing ! $ move ! (1 ∷ 0 ∷ []) $ join ! $ nothing ! $ join ! $ frame ! $ done !
 
   module _ (C : Calls 𝓤 H) (Λ : Loops 𝓤 H) (fm : FmC 𝓤 H (W .laws) C) (known-prepare : Triple 𝓤 (C #store·prepare) (Prepare 𝓤 H A mem run)) (known-new : Triple 𝓤 (C #optable·new) (New 𝓤 H A mem run)) (known-reply : Triple 𝓤 (C #submitter·reply) (Reply 𝓤 H A mem run)) where
-    walk : Rooms plan rows store free ready owners pool → Is Given-row o (val o ∷ []) → ent 𝓤 (onEntry 𝓤 H A self.signature (κ₀, (κ₁, (κ₂, (κ₃, (κ₄, (κ₅, (κ₆, tt))))))) (q₀, (q₁, (q₂, (q₃, (q₄, (q₅, (q₆, tt))))))) a at)
+    walk : Rooms plan rows store free ready owners pool → Is Opening-row o (val o ∷ []) → ent 𝓤 (onEntry 𝓤 H A self.signature (κ₀, (κ₁, (κ₂, (κ₃, (κ₄, (κ₅, (κ₆, tt))))))) (q₀, (q₁, (q₂, (q₃, (q₄, (q₅, (q₆, tt))))))) a at)
         (WpFn 𝓤 H C Λ code.function (val o ∷ count plan ∷ count rows ∷ count store ∷ count free ∷ count ready ∷ count owners ∷ count pool ∷ []) Post)
     walk rooms is-o =
         via 𝓤 _ (begins rooms) (qed W (raw (Prepare 𝓤 H A mem run .pre to-prepare) ∷ ‵ (flft κ₁ q₁) ∷ ‵ (flft κ₆ q₆) ∷ ‵ (MutSlice (named 1) κ₁ R .own rows (count rows ∷ [])) ∷ []) ∵ enter ! C Λ code.function (val o ∷ count plan ∷ count rows ∷ count store ∷ count free ∷ count ready ∷ count owners ∷ count pool ∷ []) _ $
         alloc1 ! (λ l₀. alloc1 ! (λ l₁. alloc1 ! (λ l₂. alloc1 ! (λ l₃. alloc1 ! (λ l₄. alloc1 ! (λ l₅. alloc1 ! (λ l₆. alloc1 ! (λ l₇. alloc1 ! (λ l₈. alloc1 ! (λ l₉. alloc1 ! (λ l₁₀. alloc1 ! (λ l₁₁. alloc1 ! (λ l₁₂. alloc1 ! (λ l₁₃. alloc1 ! (λ l₁₄. alloc1 ! (λ l₁₅. alloc1 ! (λ l₁₆. alloc1 ! (λ l₁₇. alloc1 ! (λ l₁₈. alloc1 ! (λ l₁₉. alloc1 ! (λ l₂₀. alloc1 ! (λ l₂₁. alloc1 ! (λ l₂₂. alloc0 ! $ params1 ! $
-        pass1 ! (init ! 42 refl (given-typed 𝓤 H A W o (val o) is-o)) $ pass1 ! (init ! 40 refl (tt, (tt, (record { fits = rooms .plan .0 }, tt)))) $ pass1 ! (init ! 38 refl (tt, (tt, (record { fits = rooms .rows .0 }, tt)))) $ pass1 ! (init ! 36 refl (tt, (tt, (record { fits = rooms .store .0 }, tt)))) $ pass1 ! (init ! 34 refl (tt, (tt, (record { fits = rooms .free .0 }, tt)))) $
+        pass1 ! (init ! 42 refl (opening-typed 𝓤 H A W o (val o) is-o)) $ pass1 ! (init ! 40 refl (tt, (tt, (record { fits = rooms .plan .0 }, tt)))) $ pass1 ! (init ! 38 refl (tt, (tt, (record { fits = rooms .rows .0 }, tt)))) $ pass1 ! (init ! 36 refl (tt, (tt, (record { fits = rooms .store .0 }, tt)))) $ pass1 ! (init ! 34 refl (tt, (tt, (record { fits = rooms .free .0 }, tt)))) $
         pass1 ! (init ! 32 refl (tt, (tt, (record { fits = rooms .ready .0 }, tt)))) $ pass1 ! (init ! 30 refl (tt, (tt, (record { fits = rooms .owners .0 }, tt)))) $ pass1 ! (init ! 28 refl (tt, (tt, (record { fits = rooms .pool .0 }, tt)))) $ pass0 ! $
         -- [_22; …; _21; …; (each local i at 44 − 2 i) …; room for _0; …; what `prepare` asks; the rows' token; the pool's token; what rows owns]
         assigns ! (of-opd ! (load ! (from ! (fld ! refl (stop !))) (look-in ! 38 (sub ! 1 refl (whole !))))) (from ! (stop !)) (init ! 24 refl (tt, record { fits = rooms .rows .0 })) $
@@ -249,32 +248,57 @@ module _ {M : Type 1} (𝓤 : URA M) (H : Heap 𝓤) (A : Atoms 𝓤) (W : Given
         -- [the rows' token; rows; …; the tokens; owners; …; ready; free; store; _22; …; room for _0; …; the pool's token]: `reply` is called
         owned ! usize (Is usize) (uint-makes 𝓤 H A W w64) depth (vint w64 depth ∷ []) (refl, is .1) $ use1 W (raw (Reply 𝓤 H A mem run .pre (to-reply depth))) (goes-reply depth) $
         calls-at ! fm (Reply 𝓤 H A mem run) known-reply (to-reply depth) (and-then ! (load ! (from ! (stop !)) (look ! 36 refl)) (no-more !)) (λ w.
-        use1 W (later (some (λ (r : Opened). (‵ ftrue ⊛ ‵ (Reply-row .own r (w ∷ []))) ⊛ raw (ensured 𝓤 H A reply.ended (reply.clauses 𝓤 H A mem run) tt (depth, tt) tt r)))) (id⊢ 𝓤 _) $ await ! tt $ pick ! (λ r.
+        use1 W (later (some (λ (r : Opened). (‵ ftrue ⊛ ‵ (Opened-row .own r (w ∷ []))) ⊛ raw (ensured 𝓤 H A reply.ended (reply.clauses 𝓤 H A mem run) tt (depth, tt) tt r)))) (id⊢ 𝓤 _) $ await ! tt $ pick ! (λ r.
         split ! $ move ! (1 ∷ []) $ use1 W (raw (fact 𝓤 (r ≡ openedWith depth))) (reply-of 𝓤 H A mem run depth r) $ heard ! (r ≡ openedWith depth) (λ replied. split ! $ drop ! $
-        peeks ! Reply-row (Is Reply-row) (shows 𝓤 H A Reply-row) r (w ∷ []) (λ is₂.
-        land ! (from ! (stop !)) (init ! 54 refl (reply-typed 𝓤 H A W r w is₂)) $
+        peeks ! Opened-row (Is Opened-row) (shows 𝓤 H A Opened-row) r (w ∷ []) (λ is₂.
+        land ! (from ! (stop !)) (init ! 54 refl (opened-typed 𝓤 H A W r w is₂)) $
         returns ! (look ! 54 refl) $ forget ! 10 refl $ forget ! 12 refl $ forget ! 14 refl $ forget ! 16 refl $ forget ! 18 refl $ forget ! 20 refl $ forget ! 22 refl $ forget ! 24 refl $ forget ! 26 refl $ forget ! 28 refl $ forget ! 30 refl $ forget ! 32 refl $ forget ! 34 refl $ forget ! 36 refl $ forget ! 38 refl $ forget ! 40 refl $ forget ! 42 refl $ forget ! 44 refl $ forget ! 46 refl $ forget ! 48 refl $ forget ! 50 refl $ forget ! 52 refl $ forget ! 54 refl $
         move ! (54 ∷ 55 ∷ []) $ free1 ! $ move ! (52 ∷ 53 ∷ []) $ free1 ! $ move ! (50 ∷ 51 ∷ []) $ free1 ! $ move ! (48 ∷ 49 ∷ []) $ free1 ! $ move ! (46 ∷ 47 ∷ []) $ free1 ! $ move ! (44 ∷ 45 ∷ []) $ free1 ! $ move ! (42 ∷ 43 ∷ []) $ free1 ! $ move ! (40 ∷ 41 ∷ []) $ free1 ! $ move ! (38 ∷ 39 ∷ []) $ free1 ! $ move ! (36 ∷ 37 ∷ []) $ free1 ! $ move ! (34 ∷ 35 ∷ []) $ free1 ! $ move ! (32 ∷ 33 ∷ []) $ free1 ! $ move ! (30 ∷ 31 ∷ []) $ free1 ! $ move ! (28 ∷ 29 ∷ []) $ free1 ! $ move ! (26 ∷ 27 ∷ []) $ free1 ! $ move ! (24 ∷ 25 ∷ []) $ free1 ! $ move ! (22 ∷ 23 ∷ []) $ free1 ! $ move ! (20 ∷ 21 ∷ []) $ free1 ! $ move ! (18 ∷ 19 ∷ []) $ free1 ! $ move ! (16 ∷ 17 ∷ []) $ free1 ! $ move ! (14 ∷ 15 ∷ []) $ free1 ! $ move ! (12 ∷ 13 ∷ []) $ free1 ! $ move ! (10 ∷ 11 ∷ []) $ free1 ! $ free0 ! $
         -- [the reply's; the rows' token; rows; …; the tokens; owners; …; ready; free; store; the pool's token]
         keep ! (4 ∷ 1 ∷ 10 ∷ 2 ∷ 9 ∷ 8 ∷ 7 ∷ 5 ∷ 0 ∷ []) $ by ! (exits depth r w (zs .0) (ws .1 .1 .1 .0) (ws .1 .1 .1 .1 .0) (ws .1 .1 .1 .1 .1 .0) (ws .1 .1 .1 .1 .1 .1 .0) did freed replied rows-long store-long free-long ready-long owners-long))))))))))))))))))))))))))))))))))))))))))))
+
 module _ {M : Type 1} (𝓤 : URA M) (H : Heap 𝓤) (A : Atoms 𝓤) (W : Given 𝓤 H A) (mem : Memory → SProp 𝓤) (run : Routine → Fun 𝓤) where
   self-walks : (C : Calls 𝓤 H) (Λ : Loops 𝓤 H) → FmC 𝓤 H (W .laws) C → Triple 𝓤 (C #store·prepare) (Prepare 𝓤 H A mem run) → Triple 𝓤 (C #optable·new) (New 𝓤 H A mem run) → Triple 𝓤 (C #submitter·reply) (Reply 𝓤 H A mem run)
       → Walks 𝓤 H A self.ended stayed (WpFn 𝓤 H C Λ code.function) (self.clauses 𝓤 H A mem run)
   self-walks C Λ fm k₁ k₂ k₃ =
       walked 𝓤 H A self.ended stayed (self.clauses 𝓤 H A mem run) (WpFn 𝓤 H C Λ code.function) (λ κs. (vals, (slice-vals, (slice-vals, (slice-vals, (slice-vals, (slice-vals, (slice-vals, (slice-vals, tt)))))))))
-      (λ κs. (tells, (shr-slice-tells (named 0) (κs .0) u64, (mut-slice-tells (named 1) (κs .1 .0) R, (mut-slice-tells (named 2) (κs .1 .1 .0) u64, (mut-slice-tells (named 3) (κs .1 .1 .1 .0) u64,
-        (mut-slice-tells (named 4) (κs .1 .1 .1 .1 .0) u64, (mut-slice-tells (named 5) (κs .1 .1 .1 .1 .1 .0) u64, (shr-slice-tells (named 6) (κs .1 .1 .1 .1 .1 .1 .0) u8, tt)))))))))
+      (λ κs. (
+        tells,
+        (
+          shr-slice-tells (named 0) (κs .0) u64,
+          (
+            mut-slice-tells (named 1) (κs .1 .0) R,
+            (
+              mut-slice-tells (named 2) (κs .1 .1 .0) u64,
+              (
+                mut-slice-tells (named 3) (κs .1 .1 .1 .0) u64,
+                (mut-slice-tells (named 4) (κs .1 .1 .1 .1 .0) u64, (mut-slice-tells (named 5) (κs .1 .1 .1 .1 .1 .0) u64, (shr-slice-tells (named 6) (κs .1 .1 .1 .1 .1 .1 .0) u8, tt))),
+              ),
+            ),
+          ),
+        ),
+      ))
       (λ κs qs bounds a g are. via 𝓤 _ (fst∗ 𝓤 _ (emp 𝓤))
-        (walk 𝓤 H A W mem run (κs .0) (κs .1 .0) (κs .1 .1 .0) (κs .1 .1 .1 .0) (κs .1 .1 .1 .1 .0) (κs .1 .1 .1 .1 .1 .0) (κs .1 .1 .1 .1 .1 .1 .0) (qs .0) (qs .1 .0) (qs .1 .1 .0) (qs .1 .1 .1 .0) (qs .1 .1 .1 .1 .0) (qs .1 .1 .1 .1 .1 .0) (qs .1 .1 .1 .1 .1 .1 .0)
-          (a .0) (a .1 .0) (a .1 .1 .0) (a .1 .1 .1 .0) (a .1 .1 .1 .1 .0) (a .1 .1 .1 .1 .1 .0) (a .1 .1 .1 .1 .1 .1 .0) (a .1 .1 .1 .1 .1 .1 .1 .0) C Λ fm k₁ k₂ k₃
-          (record { plan = are .1 .0 .0 .1; rows = are .1 .1 .0 .0 .1; store = are .1 .1 .1 .0 .0 .1; free = are .1 .1 .1 .1 .0 .0 .1; ready = are .1 .1 .1 .1 .1 .0 .0 .1; owners = are .1 .1 .1 .1 .1 .1 .0 .0 .1; pool = are .1 .1 .1 .1 .1 .1 .1 .0 .0 .1 }) (are .0)))
+      (walk 𝓤 H A W mem run (κs .0) (κs .1 .0) (κs .1 .1 .0) (κs .1 .1 .1 .0) (κs .1 .1 .1 .1 .0) (κs .1 .1 .1 .1 .1 .0) (κs .1 .1 .1 .1 .1 .1 .0) (qs .0) (qs .1 .0) (qs .1 .1 .0) (qs .1 .1 .1 .0) (qs .1 .1 .1 .1 .0) (qs .1 .1 .1 .1 .1 .0) (qs .1 .1 .1 .1 .1 .1 .0)
+      (a .0) (a .1 .0) (a .1 .1 .0) (a .1 .1 .1 .0) (a .1 .1 .1 .1 .0) (a .1 .1 .1 .1 .1 .0) (a .1 .1 .1 .1 .1 .1 .0) (a .1 .1 .1 .1 .1 .1 .1 .0) C Λ fm k₁ k₂ k₃
+      (record { plan = are .1 .0 .0 .1; rows = are .1 .1 .0 .0 .1; store = are .1 .1 .1 .0 .0 .1; free = are .1 .1 .1 .1 .0 .0 .1; ready = are .1 .1 .1 .1 .1 .0 .0 .1; owners = are .1 .1 .1 .1 .1 .1 .0 .0 .1; pool = are .1 .1 .1 .1 .1 .1 .1 .0 .0 .1 }) (are .0)))
 
 self-meets : {M : Type 1} (𝓤 : URA M) (H : Heap 𝓤) (A : Atoms 𝓤) → Given 𝓤 H A → (mem : Memory → SProp 𝓤) (run : Routine → Fun 𝓤) (𝓣 : Tables 𝓤 H) → Triple 𝓤 (𝓣 .C #store·prepare) (Prepare 𝓤 H A mem run) → Triple 𝓤 (𝓣 .C #optable·new) (New 𝓤 H A mem run) → Triple 𝓤 (𝓣 .C #submitter·reply) (Reply 𝓤 H A mem run)
     → Meets 𝓤 H A self.signature (WpFn 𝓤 H (𝓣 .C) (𝓣 .Λ) code.function) (self.spec 𝓤 H A mem run)
 self-meets 𝓤 H A W mem run 𝓣 k₁ k₂ k₃ =
-    walk-meets 𝓤 H A self.ended stayed W
-    (goes-dropped 𝓤 H A W 7 (plain (λ _. Given-row)) yes (λ κs x f. refl), (goes-dropped 𝓤 H A W 7 (shrSliceOf (0 ∷ []) tt (plain (λ _. u64))) yes (λ κs x f. refl), (goes-gave-slice 𝓤 H A W 7 1 tt (plain (λ _. R)), (goes-gave-slice 𝓤 H A W 7 2 tt (plain (λ _. u64)),
-      (goes-gave-slice 𝓤 H A W 7 3 tt (plain (λ _. u64)), (goes-gave-slice 𝓤 H A W 7 4 tt (plain (λ _. u64)), (goes-gave-slice 𝓤 H A W 7 5 tt (plain (λ _. u64)), (goes-dropped 𝓤 H A W 7 (shrSliceOf (6 ∷ []) tt (plain (λ _. u8))) yes (λ κs x f. refl), tt))))))))
+    walk-meets 𝓤 H A self.ended stayed W (
+      goes-dropped 𝓤 H A W 7 (plain (λ _. Opening-row)) yes (λ κs x f. refl),
+      (
+        goes-dropped 𝓤 H A W 7 (shrSliceOf (0 ∷ []) tt (plain (λ _. u64))) yes (λ κs x f. refl),
+        (
+          goes-gave-slice 𝓤 H A W 7 1 tt (plain (λ _. R)),
+          (
+            goes-gave-slice 𝓤 H A W 7 2 tt (plain (λ _. u64)),
+            (goes-gave-slice 𝓤 H A W 7 3 tt (plain (λ _. u64)), (goes-gave-slice 𝓤 H A W 7 4 tt (plain (λ _. u64)), (goes-gave-slice 𝓤 H A W 7 5 tt (plain (λ _. u64)), (goes-dropped 𝓤 H A W 7 (shrSliceOf (6 ∷ []) tt (plain (λ _. u8))) yes (λ κs x f. refl), tt)))),
+          ),
+        ),
+      ),
+    )
     (self.clauses 𝓤 H A mem run) (WpFn 𝓤 H (𝓣 .C) (𝓣 .Λ) code.function) (WpFn-mono 𝓤 H (W .laws) 𝓣 code.function) (self-walks 𝓤 H A W mem run (𝓣 .C) (𝓣 .Λ) (fmOf 𝓤 H (W .laws) 𝓣) k₁ k₂ k₃)
 
 pub open-spec : {M : Type 1} → stated.statement M
