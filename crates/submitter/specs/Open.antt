@@ -1,8 +1,7 @@
 -- "Is all this so, and the row memory long enough? No: 13." What an opening leaves in each part of what is lent, and its reply.
 use mathlib.Core.Path.{_≡_}
-use mathlib.Core.Bool.{Bool}
 use mathlib.Core.List.{List}
-use Prim.Native.Nat.{ℕ, zero, suc}
+use Prim.Native.Nat.{ℕ}
 use lib.Dec.{eqb}
 use Rattle.layout.specs.Pick.{pick}
 use Rattle.model.specs.declared.Counts.{Counts}

@@ -1,6 +1,6 @@
 // The calls that a host makes (store-io's submitter/mod.rs). The opening stands here; submissions and answers follow it.
 ghost use mathlib.Core.Path.{_≡_};
-ghost use Rattle.submitter.specs.Open.{lentOf, OpensTo};
+ghost use Rattle.submitter.specs.Open.{openedWith, lentOf, OpensTo};
 use model::Counts;
 use model::Opening;
 use model::Row;

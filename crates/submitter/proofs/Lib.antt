@@ -1,0 +1,3 @@
+-- What the proofs of the host's calls share.
+pub mod Opening
+pub mod Values
