@@ -7,7 +7,7 @@ use Rattle.completion.specs.declared.Range.{Range}
 use Rattle.completion.specs.declared.Context.{Context}
 use Rattle.completion.specs.declared.Context.the-variants.{None as bare, Region as withRegion, Range as withRange}
 use Rattle.completion.specs.declared.Refusal.{Refusal}
-use Rattle.completion.specs.declared.Refusal.the-variants.{ForeignPosition, ForeignBuffer, QueueFull, StaleGeneration, NotReady, ReadOnly, Poisoned, Empty, Misaligned, OutOfBounds, NotHeld, LifetimeSpent, WrongLength, UnknownTag, NotAwaited, AbovePiece}
+use Rattle.completion.specs.declared.Refusal.the-variants.{ForeignPosition, ForeignBuffer, QueueFull, StaleGeneration, NotReady, ReadOnly, Poisoned, Empty, Misaligned, OutOfBounds, NotHeld, LifetimeSpent, Unfit, UnknownTag, NotAwaited, AbovePiece}
 
 -- the number of each refusal
 unfoldable pub number : Refusal → ℕ
@@ -23,7 +23,7 @@ number (Misaligned c) = 9
 number (OutOfBounds c) = 10
 number (NotHeld c) = 11
 number (LifetimeSpent c) = 12
-number WrongLength = 13
+number Unfit = 13
 number UnknownTag = 14
 number NotAwaited = 15
 number AbovePiece = 16
@@ -53,7 +53,7 @@ values (Misaligned c) = contextValues c
 values (OutOfBounds c) = contextValues c
 values (NotHeld c) = contextValues c
 values (LifetimeSpent c) = contextValues c
-values WrongLength = nothing
+values Unfit = nothing
 values UnknownTag = nothing
 values NotAwaited = nothing
 values AbovePiece = nothing

@@ -87,7 +87,8 @@ pub enum Refusal {
     OutOfBounds(Context),
     NotHeld(Context),
     LifetimeSpent(Context),
-    WrongLength,
+    // An opening that breaks a rule or is lent too little, or a later call with another length of row memory or pool.
+    Unfit,
     UnknownTag,
     NotAwaited,
     AbovePiece,

@@ -1,33 +1,39 @@
 -- "Is all this so, and the row memory long enough? No: 13." What an opening leaves in each part of what is lent, and its reply.
 use mathlib.Core.Path.{_≡_}
+use mathlib.Core.Option.{Option, none, some}
 use mathlib.Core.List.{List}
 use Prim.Native.Nat.{ℕ}
 use lib.Dec.{eqb}
 use Rattle.layout.specs.Pick.{pick}
-use Rattle.model.specs.declared.Counts.{Counts}
+use Rattle.completion.specs.declared.Refusal.the-variants.{Unfit}
+use Rattle.completion.specs.Numbers.{number}
 use Rattle.model.specs.declared.Opening.{Opening}
 use Rattle.model.specs.declared.Row.{Row}
 use Rattle.model.specs.Memory.{Lent, lengthsOf, opens, lentAfter}
+use Rattle.model.specs.Laws.{fresh}
 use Rattle.submitter.specs.declared.Opened.{Opened}
 use Rattle.submitter.specs.declared.Opened.the-variants.{Table, No}
 
--- the counts at first
-abbrev pub fresh : Counts
-fresh = record { live = 0; ready = 0; submissions = 0 }
+-- the reply of an opening that is refused
+abbrev pub refused : Opened
+refused = No Unfit
 
+-- for the code: the reply by how many rows were prepared
 unfoldable pub openedWith : ℕ → Opened
-openedWith depth = pick (eqb depth 0) No (Table fresh)
+openedWith depth = pick (eqb depth 0) refused (Table fresh)
 
--- the number of the reply that has one
-unfoldable pub openedNumber : Opened → ℕ
-openedNumber No = 13
-openedNumber (Table c) = 0
+-- document 01's number of a reply, if it has one
+unfoldable pub openedNumber : Opened → Option ℕ
+openedNumber (No f) = some (number f)
+openedNumber (Table c) = none
 
 abbrev pub lentOf : List Row → List ℕ → List ℕ → List ℕ → List ℕ → List ℕ → Lent
 lentOf rows store free ready owners pool = record { rows = rows; store = store; free = free; ready = ready; owners = owners; pool = pool }
 
 pub record OpensTo (o : Opening) (plan : List ℕ) (l : Lent) (r : Opened) (rows : List Row) (store free ready owners : List ℕ) : Type 0 where
-  pub reply : r ≡ pick (opens o plan (lengthsOf l)) (Table fresh) No
+  pub reply : r ≡ pick (opens o plan (lengthsOf l)) (Table fresh) refused
+  -- "No: 13."
+  pub number-is : openedNumber r ≡ pick (opens o plan (lengthsOf l)) none (some 13)
   pub rows-are : rows ≡ lentAfter o plan l .rows
   pub store-is : store ≡ lentAfter o plan l .store
   pub free-is : free ≡ lentAfter o plan l .free

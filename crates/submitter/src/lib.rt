@@ -1,6 +1,7 @@
 // The calls that a host makes (store-io's submitter/mod.rs). The opening stands here; submissions and answers follow it.
 ghost use mathlib.Core.Path.{_≡_};
 ghost use Rattle.submitter.specs.Open.{openedWith, lentOf, OpensTo};
+use completion::Refusal;
 use model::Counts;
 use model::Opening;
 use model::Row;
@@ -8,7 +9,7 @@ use model::Row;
 // The reply to an opening: the table's counts, or 13.
 pub enum Opened {
     Table(Counts),
-    No,
+    No(Refusal),
 }
 
 // The reply, by how many rows there are.
@@ -16,7 +17,7 @@ fn reply(depth: usize) -> Opened
     ensures { λ r. ⌜ r ≡ openedWith depth ⌝ }
 {
     if depth == 0 {
-        Opened::No
+        Opened::No(Refusal::Unfit)
     } else {
         Opened::Table(Counts {
             live: 0,

@@ -4,18 +4,19 @@ use mathlib.Core.Bool.{Bool}
 use borrow.Author.Tests.{eq-eqb, ne-eqb}
 use Rattle.layout.specs.Pick.{pick}
 use Rattle.submitter.specs.declared.Opened.{Opened}
-use Rattle.submitter.specs.declared.Opened.the-variants.{Table, No}
-use Rattle.submitter.specs.Open.{fresh, openedWith}
+use Rattle.submitter.specs.declared.Opened.the-variants.{Table}
+use Rattle.model.specs.Laws.{fresh}
+use Rattle.submitter.specs.Open.{refused, openedWith}
 use Rattle.submitter.proofs.reply.Statement.{statement}
 use Rattle.submitter.proofs.reply.Tie as tie
 
 returns : tie.Need-returns
 unfolding openedWith pick
-returns c = sym (ap (λ (t : Bool). pick {A = Opened} t No (Table fresh)) (eq-eqb (c .before .args .depth) 0 (c .if1 .taken)))
+returns c = sym (ap (λ (t : Bool). pick {A = Opened} t refused (Table fresh)) (eq-eqb (c .before .args .depth) 0 (c .if1 .taken)))
 
 returns-2 : tie.Need-returns-2
 unfolding openedWith pick
-returns-2 c = sym (ap (λ (t : Bool). pick {A = Opened} t No (Table fresh)) (ne-eqb (c .before .args .depth) 0 (c .if1 .left)))
+returns-2 c = sym (ap (λ (t : Bool). pick {A = Opened} t refused (Table fresh)) (ne-eqb (c .before .args .depth) 0 (c .if1 .left)))
 
 pub reply-spec : {M : Type 1} → statement M
 reply-spec = tie.close (tie.spec returns returns-2)
