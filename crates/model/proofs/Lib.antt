@@ -2,3 +2,4 @@
 pub mod Rules
 pub mod Opened
 pub mod Maps
+pub mod Laws

@@ -13,6 +13,7 @@ use lib.Dec.{leb, ltb}
 use lib.ListN.{length, getD, take, drop}
 use Rattle.layout.proofs.Tests.{and-left, and-right}
 use Rattle.regionmap.specs.Map.{Map, Extent, extents, ascends, allApart, allWithin, place}
+use Rattle.regionmap.specs.Words.{runsIn}
 use Rattle.regionmap.specs.Laws.{Lawful, Separate}
 use Rattle.regionmap.proofs.Laws.{map-laws, extent-laws}
 use Rattle.model.specs.declared.Opening.{Opening}
@@ -27,27 +28,40 @@ unfolding plansIn
 plans-length zero ws = refl
 plans-length (suc n) ws = ap suc (plans-length n (drop 70 ws))
 
--- one region's rules make its map lawful
-lawful-of : (b : ℕ) (p : Plan) → regionRule b p ≡ true → Lawful (p .map)
-unfolding regionRule mapRule
-lawful-of b p e =
-    let m = p .map in
-    let maps = and-right (generationRule p) _ e in
-    let behind = and-right (runsRule m) _ maps in
-    let sizes = and-left (sizesRule m) _ behind in
-    let starts = and-left (startsRule m) _ (and-right (sizesRule m) _ behind) in
-    record { rising = starts; within = leb-true _ _ (and-right (ltb 0 (m .capacity)) _ sizes) }
+pub runs-length : (n : ℕ) (ws : List ℕ) → length (runsIn n ws) ≡ n
+unfolding runsIn
+runs-length zero ws = refl
+runs-length (suc n) ws = ap suc (runs-length n (drop 2 ws))
+
+-- one region's rules make its map lawful, with few runs
+module _ (b : ℕ) (p : Plan) (e : regionRule b p ≡ true) where
+  map-rules : mapRule b (p .map) ≡ true
+  unfolding regionRule
+  map-rules = and-right (generationRule p) _ e
+
+  few-of : length (p .map .more) ≤ 32
+  unfolding mapRule
+  few-of = leb-true _ _ (and-left (runsRule (p .map)) _ map-rules)
+
+  lawful-of : Lawful (p .map)
+  unfolding mapRule
+  lawful-of =
+      let m = p .map in
+      let behind = and-right (runsRule m) _ map-rules in
+      let sizes = and-left (sizesRule m) _ behind in
+      let starts = and-left (startsRule m) _ (and-right (sizesRule m) _ behind) in
+      record { rising = starts; within = leb-true _ _ (and-right (ltb 0 (m .capacity)) _ sizes) }
 
 module _ (d : Plan) where
   -- the h-th plan's map
   abbrev at : List Plan → ℕ → Map
   at ps h = getD ps h d .map
 
-  each-lawful : (b : ℕ) (ps : List Plan) → eachRegion b ps ≡ true → (h : ℕ) → h < length ps → Lawful (at ps h)
+  each-rule : (b : ℕ) (ps : List Plan) → eachRegion b ps ≡ true → (h : ℕ) → h < length ps → regionRule b (getD ps h d) ≡ true
   unfolding eachRegion
-  each-lawful b [] e h l = absurd (not-suc-le-zero l)
-  each-lawful b (p ∷ ps) e zero l = lawful-of b p (and-left (regionRule b p) _ e)
-  each-lawful b (p ∷ ps) e (suc h) l = each-lawful b ps (and-right (regionRule b p) _ e) h (le-of-suc-le-suc l)
+  each-rule b [] e h l = absurd (not-suc-le-zero l)
+  each-rule b (p ∷ ps) e zero l = and-left (regionRule b p) _ e
+  each-rule b (p ∷ ps) e (suc h) l = each-rule b ps (and-right (regionRule b p) _ e) h (le-of-suc-le-suc l)
 
   each-within : (c : ℕ) (ps : List Plan) → allWithin c (allExtents ps) ≡ true → (h : ℕ) → h < length ps → allWithin c (extents (at ps h)) ≡ true
   unfolding allExtents
@@ -98,8 +112,14 @@ module _ (o : Opening) (plan : List ℕ) (l : Lengths) (ok : opens o plan l ≡ 
   inside : (h : ℕ) → h < o .regions → h < length ps
   inside h lt = subst (λ (n : ℕ). h < n) (sym (plans-length (o .regions) plan)) lt
 
+  rule-at : (h : ℕ) → h < o .regions → regionRule (o .block) (getD ps h none) ≡ true
+  rule-at h lt = each-rule none (o .block) ps each h (inside h lt)
+
   lawful : (h : ℕ) → h < o .regions → Lawful (mapAt o plan h)
-  lawful h lt = each-lawful none (o .block) ps each h (inside h lt)
+  lawful h lt = lawful-of (o .block) (getD ps h none) (rule-at h lt)
+
+  pub few-runs : (h : ℕ) → h < o .regions → length (mapAt o plan h .more) ≤ 32
+  few-runs h lt = few-of (o .block) (getD ps h none) (rule-at h lt)
 
   -- of two regions one comes first
   ordered : (h k p q : ℕ) → h < o .regions → k < o .regions → h < k → p < mapAt o plan h .capacity → q < mapAt o plan k .capacity → place (mapAt o plan h) p ≢ place (mapAt o plan k) q

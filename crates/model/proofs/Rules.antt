@@ -4,7 +4,7 @@ use mathlib.Core.Bool.{Bool, true, _&&_}
 use mathlib.Core.List.{List, [], _∷_}
 use Prim.Native.Nat.{ℕ, _+_, _*_, _≤_}
 use lib.ListN.{length}
-use borrow.Author.Tests.{leb-true}
+use borrow.Author.Tests.{leb-true, eqb-true}
 use lib.Dec.{leb}
 use Rattle.layout.specs.Block.{onBlock}
 use Rattle.layout.proofs.Tests.{and-left, and-right}
@@ -74,6 +74,10 @@ room-mean o plan l h =
       owners = leb-true _ _ (and-right (leb (1 + 16 * o .depth) (l .ready)) _ m₄)
     }
 
+pub pool-mean : (o : Opening) (plan : List ℕ) (l : Lengths) → allTrue (lengthRules o (listed o plan) l) ≡ true → l .pool ≡ o .buffers * o .capacity
+unfolding lengthRules
+pool-mean o plan l h = eqb-true _ _ (head-true _ _ h)
+
 -- ---- the parts of an admitted opening
 
 module _ (o : Opening) (plan : List ℕ) (l : Lengths) (h : opens o plan l ≡ true) where
@@ -96,3 +100,6 @@ module _ (o : Opening) (plan : List ℕ) (l : Lengths) (h : opens o plan l ≡ t
 
   pub room-holds : Room o l
   room-holds = room-mean o plan l lengths-hold
+
+  pub pool-holds : l .pool ≡ o .buffers * o .capacity
+  pool-holds = pool-mean o plan l lengths-hold

@@ -17,6 +17,7 @@ use Rattle.layout.proofs.Tests.{true-or-false, and-left, and-right}
 use Rattle.regionmap.specs.Map.{Run, span, spansFrom, spans, Extent, extent, extents, apart, apartFrom, allApart, allWithin}
 use Rattle.regionmap.specs.Words.{runsIn, mapIn}
 use Rattle.model.specs.Opening.{generationRule, runsRule, regionRule, mapRule, eachRegion, allExtents}
+use Rattle.model.proofs.Maps.{runs-length}
 use Rattle.model.specs.Memory.{planIn, plansIn}
 use Rattle.store.proofs.Steps.{runWords, runsFrom, one-left, none-left, runs-step, runs-end, runs-all}
 
@@ -177,11 +178,6 @@ unfolding extent
 further-at ws j f l = map-at ws j l ∙ ap (λ (r : Run). extent (span r (endOf ws j))) (further-run ws j f)
 
 -- ---- how many they are
-
-runs-length : (n : ℕ) (ws : List ℕ) → length (runsIn n ws) ≡ n
-unfolding runsIn
-runs-length zero ws = refl
-runs-length (suc n) ws = ap suc (runs-length n (drop 2 ws))
 
 spans-length : (r : Run) (rs : List Run) (cap : ℕ) → length (spansFrom r rs cap) ≡ suc (length rs)
 unfolding spansFrom

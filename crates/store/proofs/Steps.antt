@@ -51,10 +51,6 @@ runs-all ws n =
     let none : n - 0 ≡ n = omega arith in
     ap (λ (k : ℕ). runsIn k (drop 4 ws)) none
 
-pub runs-length : (n : ℕ) (ws : List ℕ) → length (runsIn n ws) ≡ n
-unfolding runsIn
-runs-length zero ws = refl
-runs-length (suc n) ws = ap suc (runs-length n (drop 2 ws))
 
 -- a part up to the end
 pub to-the-end : (k : ℕ) (ws : List ℕ) → take (length ws - k) (drop k ws) ≡ drop k ws

@@ -6,7 +6,7 @@ mod numbers;
 mod plan;
 
 ghost use mathlib.Core.Path.{_≡_};
-ghost use Rattle.model.specs.Memory.{opens};
+ghost use Rattle.model.specs.Memory.{opens, sameLengths};
 ghost use Rattle.store.specs.Prepared.{lengthsWith, Prepared};
 use model::Lengths;
 use model::Opening;
@@ -60,4 +60,19 @@ pub fn prepare(
     fill::zeros(ready, 1);
     fill::zeros(owners, buffers);
     depth
+}
+
+// Whether what is lent to a later call has the lengths of the opening: "A later call with another length of row memory or pool gets 13 first."
+pub fn same_lengths(store: &[u64], l: Lengths) -> bool
+    ensures { λ r. ⌜ r ≡ sameLengths l (now (store .entry)) ⌝ }
+{
+    if store.len() < 48 {
+        return false;
+    }
+    let pool = l.pool == store[18];
+    let owners = numbers::both(l.owners == store[17], pool);
+    let ready = numbers::both(l.ready == store[16], owners);
+    let free = numbers::both(l.free == store[15], ready);
+    let words = numbers::both(l.store == store[14], free);
+    numbers::both(l.rows == store[13], words)
 }

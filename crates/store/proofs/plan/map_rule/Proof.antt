@@ -10,7 +10,7 @@ use lib.Dec.{leb, ltb}
 use Rattle.regionmap.specs.Map.{ascends}
 use Rattle.regionmap.specs.Words.{runsIn, mapIn}
 use Rattle.model.specs.Opening.{mapRule, blocksRule}
-use Rattle.store.proofs.Steps.{runs-length}
+use Rattle.model.proofs.Maps.{runs-length}
 use Rattle.store.proofs.plan.map_rule.Statement.{statement}
 use Rattle.store.proofs.plan.map_rule.Tie as tie
 use Rattle.store.proofs.plan.map_rule.Reads as reads
