@@ -32,14 +32,51 @@ pub fn figures() -> Opening {
     }
 }
 
-// At most 65,536.
-fn few(n: u64) -> usize
-    ensures { λ r. ⌜ r ≤ 65536 ⌝ }
-{
-    if n <= 65536 { n as usize } else { 65536 }
+// The figures at another depth.
+pub fn depth(depth: u64) -> Opening {
+    Opening { depth, ..figures() }
 }
 
-// Lengths that are just enough.
+// The figures with another lifetime.
+pub fn lifetime(lifetime: u64) -> Opening {
+    Opening {
+        lifetime,
+        ..figures()
+    }
+}
+
+// The figures on a card of another size.
+pub fn card(card: u64) -> Opening {
+    Opening { card, ..figures() }
+}
+
+// The figures with another block and pool.
+pub fn pool(block: u64, buffers: u64, capacity: u64) -> Opening {
+    Opening {
+        block,
+        buffers,
+        capacity,
+        ..figures()
+    }
+}
+
+// The figures with as many regions, on a card of another size.
+pub fn many(regions: u64, card: u64) -> Opening {
+    Opening {
+        regions,
+        card,
+        ..figures()
+    }
+}
+
+// At most 131,072, which is past every limit that is tried.
+fn few(n: u64) -> usize
+    ensures { λ r. ⌜ r ≤ 131072 ⌝ }
+{
+    if n <= 131072 { n as usize } else { 131072 }
+}
+
+// Lengths that are just enough, also for numbers past their limits, so that the limit alone refuses those.
 pub fn lent(o: Opening) -> Given {
     let depth = few(o.depth);
     let buffers = few(o.buffers);
@@ -57,8 +94,16 @@ pub fn lent(o: Opening) -> Given {
 }
 
 // The plan with other numbers for region h, its further runs kept.
-pub fn region(plan: [u64; 560], h: usize, id: u64, generation: u64, first: u64, capacity: u64, data: u64) -> [u64; 560] {
-    if 8 <= h {
+pub fn region(
+    plan: [u64; 630],
+    h: usize,
+    id: u64,
+    generation: u64,
+    first: u64,
+    capacity: u64,
+    data: u64,
+) -> [u64; 630] {
+    if 9 <= h {
         return plan;
     }
     let mut p = plan;
@@ -71,8 +116,8 @@ pub fn region(plan: [u64; 560], h: usize, id: u64, generation: u64, first: u64, 
 }
 
 // The plan with another count of further runs for region h.
-pub fn counted(plan: [u64; 560], h: usize, count: u64) -> [u64; 560] {
-    if 8 <= h {
+pub fn counted(plan: [u64; 630], h: usize, count: u64) -> [u64; 630] {
+    if 9 <= h {
         return plan;
     }
     let mut p = plan;
@@ -81,8 +126,8 @@ pub fn counted(plan: [u64; 560], h: usize, count: u64) -> [u64; 560] {
 }
 
 // The plan with another j-th further run for region h.
-pub fn run(plan: [u64; 560], h: usize, j: usize, start: u64, offset: u64) -> [u64; 560] {
-    if 8 <= h {
+pub fn run(plan: [u64; 630], h: usize, j: usize, start: u64, offset: u64) -> [u64; 630] {
+    if 9 <= h {
         return plan;
     }
     if 32 <= j {
@@ -95,18 +140,37 @@ pub fn run(plan: [u64; 560], h: usize, j: usize, start: u64, offset: u64) -> [u6
 }
 
 // The figures' one region: "first offset 1,024, one further run (1,024, 8,192), capacity and data 2,048".
-pub fn figures_plan() -> [u64; 560] {
-    let one = region([0; 560], 0, 7, 3, 1024, 2048, 2048);
+pub fn figures_plan() -> [u64; 630] {
+    let one = region([0; 630], 0, 7, 3, 1024, 2048, 2048);
     run(counted(one, 0, 1), 0, 0, 1024, 8192)
 }
 
+// The figures' plan with other numbers for its region.
+pub fn figured(generation: u64, first: u64, capacity: u64, data: u64) -> [u64; 630] {
+    region(figures_plan(), 0, 7, generation, first, capacity, data)
+}
+
+// The figures' plan with another further run.
+pub fn placed(start: u64, offset: u64) -> [u64; 630] {
+    run(figures_plan(), 0, 0, start, offset)
+}
+
+// The figures' plan and a second region, of one run of 1,024 bytes.
+pub fn second(id: u64, first: u64) -> [u64; 630] {
+    region(figures_plan(), 1, id, 0, first, 1024, 1024)
+}
+
 // The plan with region h as 33 runs of a block each, one behind the other on the card, and behind those of the regions before it.
-fn full_region(plan: [u64; 560], h: usize) -> [u64; 560] {
-    if 8 <= h {
+fn full_region(plan: [u64; 630], h: usize) -> [u64; 630] {
+    if 9 <= h {
         return plan;
     }
     let first = 33 * h as u64;
-    let mut p = counted(region(plan, h, h as u64, 0, 512 * first, 33 * 512, 33 * 512), h, 32);
+    let mut p = counted(
+        region(plan, h, h as u64, 0, 512 * first, 33 * 512, 33 * 512),
+        h,
+        32,
+    );
     let mut j: usize = 0;
     while j < 32 {
         let next = j as u64 + 1;
@@ -117,10 +181,10 @@ fn full_region(plan: [u64; 560], h: usize) -> [u64; 560] {
     p
 }
 
-// Eight such regions.
-pub fn full() -> [u64; 560] {
-    let a = full_region(full_region([0; 560], 0), 1);
+// Nine such regions: an opening of eight looks at the first eight.
+pub fn full() -> [u64; 630] {
+    let a = full_region(full_region([0; 630], 0), 1);
     let b = full_region(full_region(a, 2), 3);
     let c = full_region(full_region(b, 4), 5);
-    full_region(full_region(c, 6), 7)
+    full_region(full_region(full_region(c, 6), 7), 8)
 }

@@ -21,36 +21,36 @@ fn cut(n: usize, most: usize) -> usize
     if n < most { n } else { most }
 }
 
-// Memory for the largest opening. Each `ensures` gives only the length, which lending a part asks for.
-fn store_words() -> [u64; 640]
-    ensures { λ r. ⌜ 640 ≡ length r ⌝ }
+// Memory for more than the largest opening. Each `ensures` gives only the length, which lending a part asks for.
+fn store_words() -> [u64; 700]
+    ensures { λ r. ⌜ 700 ≡ length r ⌝ }
 {
-    [0; 640]
+    [0; 700]
 }
 
-fn row_words() -> [u64; 4096]
-    ensures { λ r. ⌜ 4096 ≡ length r ⌝ }
+fn row_words() -> [u64; 4200]
+    ensures { λ r. ⌜ 4200 ≡ length r ⌝ }
 {
-    [0; 4096]
+    [0; 4200]
 }
 
-fn ready_words() -> [u64; 65537]
-    ensures { λ r. ⌜ 65537 ≡ length r ⌝ }
+fn ready_words() -> [u64; 66300]
+    ensures { λ r. ⌜ 66300 ≡ length r ⌝ }
 {
-    [0; 65537]
+    [0; 66300]
 }
 
 // Opens a table in memory of the given lengths, and prints the name and what came of it.
-pub fn tried(name: &[u8], o: Opening, g: Given, plan: [u64; 560]) {
+pub fn tried(name: &[u8], o: Opening, g: Given, plan: [u64; 630]) {
     let mut store = store_words();
     let mut free = row_words();
     let mut ready = ready_words();
     let mut owners = row_words();
-    let store_len = cut(g.store, 640);
-    let free_len = cut(g.free, 4096);
-    let ready_len = cut(g.ready, 65537);
-    let owners_len = cut(g.owners, 4096);
-    let plan_len = cut(g.plan, 560);
+    let store_len = cut(g.store, 700);
+    let free_len = cut(g.free, 4200);
+    let ready_len = cut(g.ready, 66300);
+    let owners_len = cut(g.owners, 4200);
+    let plan_len = cut(g.plan, 630);
     let depth = store::prepare(
         o,
         &plan[..plan_len],

@@ -1,4 +1,4 @@
--- `limits::plans::full_region` is safe and ends: every index is below 560, since the region is below 8 and the run below 32.
+-- `limits::plans::full_region` is safe and ends: every index is below 630, since the region is below 9 and the run below 32.
 use Prim.Native.Nat.{_-_, _≤_}
 use borrow.Author.Needs.{needs}
 use Rattle.limits.proofs.plans.full_region.Statement.{statement}

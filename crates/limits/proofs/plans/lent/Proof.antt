@@ -1,4 +1,4 @@
--- `limits::plans::lent` is safe: a product of two numbers of at most 65,536 fits.
+-- `limits::plans::lent` is safe: a product of two numbers of at most 131,072 fits.
 use native.Mathlib.Nat.{mul-le-mul}
 use native.Mathlib.Omega.{arith}
 use borrow.Author.Needs.{needs}
