@@ -1,8 +1,8 @@
 // What is handed back to the host (store-io's completion.rs, with the ticket and the receipt of receipt.rs and the contexts of io.rs):
 // completions, and the reply to each call. specs/Numbers.antt lists document 01's number for each case that has one.
 use domain::FirstCause;
-use domain::OsError;
 use domain::Op;
+use domain::OsError;
 use regionmap::Offset;
 use regionmap::Position;
 
@@ -97,16 +97,31 @@ pub enum Refusal {
 // The reply to a call.
 pub enum Reply {
     // "The reply is the first piece: card offset, buffer, count"; likewise the next piece.
-    Piece { qtag: u64, offset: Offset, count: u64, buffer: u64 },
+    Piece {
+        qtag: u64,
+        offset: Offset,
+        count: u64,
+        buffer: u64,
+    },
     // Turned away: nothing has changed.
     No(Refusal),
     // A first piece refused: "The host gets Io or QueueFull and the range, and its buffer, if it came back, with the whole length."
     // Io where there is an OS error, QueueFull where there is none.
-    Rejected { range: Range, op: Op, raw: OsError, buf: Buffer },
+    Rejected {
+        range: Range,
+        op: Op,
+        raw: OsError,
+        buf: Buffer,
+    },
     // The operation is complete: its completion can be taken.
-    Done { qtag: u64 },
+    Done {
+        qtag: u64,
+    },
     // "keeps the row and replies with tag and need"
-    Flush { qtag: u64, need: u64 },
+    Flush {
+        qtag: u64,
+        need: u64,
+    },
     // The oldest completion, taken.
     Took(Completion),
     // "With none ready the reply is none"

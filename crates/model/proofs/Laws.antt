@@ -98,12 +98,13 @@ module _ (o : Opening) (plan store : List ℕ) (l : Lengths) (ok : opens o plan 
 
   pub held : HoldsMap (mapWordsAt (storeOpened o plan l store) h) × (mapIn (mapWordsAt (storeOpened o plan l store) h) ≡ mapAt o plan h)
   held =
-      let few = few-runs o plan l ok h lt in
-      (record {
-        room = omega (arith, few, count-is, words-long);
-        rising = ap (λ (m : Map). ascends 0 (m .more) (m .capacity)) map-is ∙ opened-maps o plan l ok .lawful h lt .rising;
-      },
-      map-is)
+      let few = few-runs o plan l ok h lt in (
+        record {
+          room = omega (arith, few, count-is, words-long);
+          rising = ap (λ (m : Map). ascends 0 (m .more) (m .capacity)) map-is ∙ opened-maps o plan l ok .lawful h lt .rising;
+        },
+        map-is,
+      )
 
 -- ---- the lengths of a later call
 

@@ -57,9 +57,9 @@ first-regions (suc k) ms ps rest l z =
     let some : 70 ≤ length ps = omega arith in
     let parts : take (70 * suc k) ps ≡ take 70 ps ++ take (70 * k) (drop 70 ps) = ap (λ (n : ℕ). take n ps) sum ∙ take-add 70 (70 * k) ps in
     let behind : drop 70 (take (70 * suc k) ps ++ rest) ≡ take (70 * k) (drop 70 ps) ++ rest =
-        drop-append-le 70 (take (70 * suc k) ps) rest in-it
-        ∙ ap (λ (v : List ℕ). drop 70 v ++ rest) parts
-        ∙ ap (λ (v : List ℕ). v ++ rest) (drop-at (take 70 ps) (take (70 * k) (drop 70 ps)) 70 (length-take-le 70 ps some)) in
+    drop-append-le 70 (take (70 * suc k) ps) rest in-it
+    ∙ ap (λ (v : List ℕ). drop 70 v ++ rest) parts
+    ∙ ap (λ (v : List ℕ). v ++ rest) (drop-at (take 70 ps) (take (70 * k) (drop 70 ps)) 70 (length-take-le 70 ps some)) in
     let marks : (j : ℕ) → j < 3 → getD (take 3 ms) j 0 ≡ 0 = λ j s. getD-take 3 ms j 0 s ∙ z j (omega arith) in
     ap₂ (λ (r : Region) (rs : List Region). r ∷ rs)
     (first-region (take 3 ms) (take 70 (take (70 * suc k) ps ++ rest)) marks ∙ ap (λ (ws : List ℕ). atFirst (planIn ws)) here)
@@ -112,5 +112,5 @@ opened-state o plan l h =
       free = free-read o plan l listed few i;
       ready = [];
       owners = owners-read o plan l listed few i;
-      pool = l .pool
+      pool = l .pool;
     }

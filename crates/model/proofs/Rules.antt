@@ -51,7 +51,7 @@ numbers-mean o h₁ =
       most-lifetime = at-most _ _ _ (head-true _ _ h₅);
       some-regions = at-least _ _ _ (head-true _ _ h₆);
       most-regions = at-most _ _ _ (head-true _ _ h₆);
-      card = leb-true _ _ (head-true _ _ h₇)
+      card = leb-true _ _ (head-true _ _ h₇);
     }
 
 -- the plan lists the opening's regions
@@ -71,7 +71,7 @@ room-mean o plan l h =
       store = leb-true _ _ (and-left (leb (48 + 70 * o .regions) (l .store)) _ m₂);
       free = leb-true _ _ (and-left (leb (o .depth) (l .free)) _ m₃);
       ready = leb-true _ _ (and-left (leb (1 + 16 * o .depth) (l .ready)) _ m₄);
-      owners = leb-true _ _ (and-right (leb (1 + 16 * o .depth) (l .ready)) _ m₄)
+      owners = leb-true _ _ (and-right (leb (1 + 16 * o .depth) (l .ready)) _ m₄);
     }
 
 pub pool-mean : (o : Opening) (plan : List ℕ) (l : Lengths) → allTrue (lengthRules o (listed o plan) l) ≡ true → l .pool ≡ o .buffers * o .capacity

@@ -51,7 +51,6 @@ runs-all ws n =
     let none : n - 0 ≡ n = omega arith in
     ap (λ (k : ℕ). runsIn k (drop 4 ws)) none
 
-
 -- a part up to the end
 pub to-the-end : (k : ℕ) (ws : List ℕ) → take (length ws - k) (drop k ws) ≡ drop k ws
 to-the-end k ws = take-all (length ws - k) (drop k ws) (simp length-drop (omega arith))

@@ -25,7 +25,10 @@ pub fn admits(o: Opening, plan: &[u64], l: Lengths) -> bool
     if !plan::each_region(plan, regions, o.block) {
         return false;
     }
-    let card = numbers::both(card::within_rule(plan, regions, o.card), numbers::both(card::apart_rule(plan, regions), true));
+    let card = numbers::both(
+        card::within_rule(plan, regions, o.card),
+        numbers::both(card::apart_rule(plan, regions), true),
+    );
     numbers::both(plan::ids_rule(plan, regions), card)
 }
 

@@ -25,7 +25,10 @@ pub(crate) fn from_to(lo: u64, hi: u64, x: u64) -> bool
 fn capacity_rule(o: Opening) -> bool
     ensures { λ r. ⌜ r ≡ capacityRule o ⌝ }
 {
-    both(from_to(1, 65536, o.capacity), layout::on_block(o.block, o.capacity))
+    both(
+        from_to(1, 65536, o.capacity),
+        layout::on_block(o.block, o.capacity),
+    )
 }
 
 // The rules on the opening's own numbers.

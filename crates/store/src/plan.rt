@@ -41,7 +41,10 @@ fn run_on_block(map: &[u64], j: usize, block: u64) -> bool
 {
     let start = map[4 + 2 * j];
     let offset = map[5 + 2 * j];
-    both(layout::on_block(block, start), layout::on_block(block, offset))
+    both(
+        layout::on_block(block, start),
+        layout::on_block(block, offset),
+    )
 }
 
 // "Positions, card offsets .. are multiples of the block": of all further runs.
@@ -67,7 +70,10 @@ fn blocks_rule(map: &[u64], count: usize, block: u64) -> bool
     let first = layout::on_block(block, map[0]);
     let capacity = layout::on_block(block, map[1]);
     let data = layout::on_block(block, map[2]);
-    both(first, both(capacity, both(data, runs_on_block(map, count, block))))
+    both(
+        first,
+        both(capacity, both(data, runs_on_block(map, count, block))),
+    )
 }
 
 // The rules on one region's map.

@@ -64,7 +64,7 @@ unfolding sameLengths
 returns-2 c =
     let a = c .before .before .before .before .before .before .before .before .before .before .before .before .before .before .before .before .before .before .before .args in
     let enough : sameLengths (a .l) (a .store .now) ≡ others (a .l) (a .store .now) =
-        ap (λ (t : Bool). t && others (a .l) (a .store .now)) (le-leb 48 (length (a .store .now)) (c .before .before .before .before .before .before .before .before .before .before .before .before .before .before .before .before .before .if1 .left)) in
+    ap (λ (t : Bool). t && others (a .l) (a .store .now)) (le-leb 48 (length (a .store .now)) (c .before .before .before .before .before .before .before .before .before .before .before .before .before .before .before .before .before .if1 .left)) in
     cc enough
 
 pub same-lengths-spec : {M : Type 1} → statement M

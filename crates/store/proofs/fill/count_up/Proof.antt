@@ -48,12 +48,13 @@ loop-again : tie.Need-loop-again Inv-loop μ-loop
 loop-again c =
     let a = c .before .before .args in
     let at = c .before .loop in
-    let here : at .i ≡ 0 + at .i = omega arith in
-    (search needs,
-    ap₂ (λ (l : List ℕ) (v : ℕ). set l (at .i) v) (at .inv .1) here
-    ∙ counted 0 (at .i) (a .dst .now) (omega arith)
-    ∙ ap (λ (k : ℕ). upFrom 0 k ++ drop k (a .dst .now)) (sym (add-one (at .i))),
-    length-set (at .dst) _ _ ∙ at .inv .2)
+    let here : at .i ≡ 0 + at .i = omega arith in (
+      search needs,
+      ap₂ (λ (l : List ℕ) (v : ℕ). set l (at .i) v) (at .inv .1) here
+          ∙ counted 0 (at .i) (a .dst .now) (omega arith)
+          ∙ ap (λ (k : ℕ). upFrom 0 k ++ drop k (a .dst .now)) (sym (add-one (at .i))),
+      length-set (at .dst) _ _ ∙ at .inv .2,
+    )
 
 same-length : tie.Need-same-length Inv-loop μ-loop
 same-length c = search needs

@@ -45,7 +45,7 @@ both-put : (xs ys s : List ℕ) (n : ℕ) → length xs ≡ n → take n (xs ++ 
 unfolding over
 both-put xs ys s n e =
     let tail : drop (n + length ys) (xs ++ drop n s) ≡ drop (n + length ys) s =
-        ap (λ (k : ℕ). drop (k + length ys) (xs ++ drop n s)) (sym e) ∙ drop-append-add xs (drop n s) (length ys) ∙ drop-drop (length ys) n s in
+    ap (λ (k : ℕ). drop (k + length ys) (xs ++ drop n s)) (sym e) ∙ drop-append-add xs (drop n s) (length ys) ∙ drop-drop (length ys) n s in
     let all : length (xs ++ ys) ≡ n + length ys = length-append xs ys ∙ ap (λ (k : ℕ). k + length ys) e in
     ap₂ (λ (a b : List ℕ). a ++ ys ++ b) (take-at xs (drop n s) n e) tail ∙ ap (λ (k : ℕ). xs ++ ys ++ drop k s) (sym all)
 

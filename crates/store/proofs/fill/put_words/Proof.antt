@@ -45,12 +45,13 @@ loop-less c = search needs
 loop-again : tie.Need-loop-again Inv-loop μ-loop
 loop-again c =
     let a = c .before .before .before .args in
-    let at = c .before .before .loop in
-    (search needs,
-    ap (λ (l : List ℕ). set l (a .at + at .i) (getD (a .src .now) (at .i) 0)) (at .inv .1)
-    ∙ paste-suc (a .dst .now) (a .at) (a .src .now) (at .i) 0 (omega arith) (omega arith)
-    ∙ ap (paste (a .dst .now) (a .at) (a .src .now)) (sym (add-one (at .i))),
-    length-set (at .dst) _ _ ∙ at .inv .2)
+    let at = c .before .before .loop in (
+      search needs,
+      ap (λ (l : List ℕ). set l (a .at + at .i) (getD (a .src .now) (at .i) 0)) (at .inv .1)
+          ∙ paste-suc (a .dst .now) (a .at) (a .src .now) (at .i) 0 (omega arith) (omega arith)
+          ∙ ap (paste (a .dst .now) (a .at) (a .src .now)) (sym (add-one (at .i))),
+      length-set (at .dst) _ _ ∙ at .inv .2,
+    )
 
 same-length : tie.Need-same-length Inv-loop μ-loop
 same-length c = search needs

@@ -76,9 +76,11 @@ loop-less c = search needs
 loop-again : tie.Need-loop-again Inv-loop μ-loop
 loop-again c =
     let a = c .before .before .before .before .before .before .args in
-    let at = c .before .before .before .before .loop in
-    (search needs, goes (walk (a .block) (a .plan .now) (a .regions)) (at .h) (at .inv .1) (c .before .before .before .loop-test .taken)
-    (sym (tested (a .block) (a .plan .now) (at .h)) ∙ sym (c .before .region-rule .ensures) ∙ not-false _ (c .if1 .left)))
+    let at = c .before .before .before .before .loop in (
+      search needs,
+      goes (walk (a .block) (a .plan .now) (a .regions)) (at .h) (at .inv .1) (c .before .before .before .loop-test .taken)
+          (sym (tested (a .block) (a .plan .now) (at .h)) ∙ sym (c .before .region-rule .ensures) ∙ not-false _ (c .if1 .left)),
+    )
 
 returns-2 : tie.Need-returns-2 Inv-loop μ-loop
 returns-2 c =

@@ -60,9 +60,11 @@ loop-less c = search needs
 loop-again : tie.Need-loop-again Inv-loop μ-loop
 loop-again c =
     let a = c .before .before .before .before .args in
-    let at = c .before .before .before .loop in
-    (search needs, sym (among-step (a .id) (a .plan .now) (a .regions) (at .h) (c .before .before .loop-test .taken)
-    ∙ ap (λ (t : Bool). t || among (a .id) (idsFrom (a .plan .now) (a .regions) (at .h + 1))) (ne-eqb _ _ (c .if1 .left))) ∙ at .inv .1)
+    let at = c .before .before .before .loop in (
+      search needs,
+      sym (among-step (a .id) (a .plan .now) (a .regions) (at .h) (c .before .before .loop-test .taken)
+          ∙ ap (λ (t : Bool). t || among (a .id) (idsFrom (a .plan .now) (a .regions) (at .h + 1))) (ne-eqb _ _ (c .if1 .left))) ∙ at .inv .1,
+    )
 
 returns-2 : tie.Need-returns-2 Inv-loop μ-loop
 returns-2 c =

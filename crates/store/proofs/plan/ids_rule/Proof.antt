@@ -69,9 +69,11 @@ loop-less c = search needs
 loop-again : tie.Need-loop-again Inv-loop μ-loop
 loop-again c =
     let a = c .before .before .before .before .before .before .args in
-    let at = c .before .before .before .before .loop in
-    (search needs, goes (walk (a .plan .now) (a .regions)) (at .h) (at .inv .1) (c .before .before .before .loop-test .taken)
-    (ap not (sym (c .before .id-among .ensures) ∙ c .if1 .left)))
+    let at = c .before .before .before .before .loop in (
+      search needs,
+      goes (walk (a .plan .now) (a .regions)) (at .h) (at .inv .1) (c .before .before .before .loop-test .taken)
+          (ap not (sym (c .before .id-among .ensures) ∙ c .if1 .left)),
+    )
 
 returns-2 : tie.Need-returns-2 Inv-loop μ-loop
 returns-2 c =
