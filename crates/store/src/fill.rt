@@ -78,38 +78,10 @@ pub(crate) fn put_store(o: Opening, plan: &[u64], l: Lengths, store: &mut [u64])
         l.ready,
         l.owners,
         l.pool,
-        0,
-        0,
-        0,
-        0,
-        0,
-        0,
-        0,
-        0,
-        0,
-        0,
-        0,
-        0,
-        0,
-        0,
-        0,
-        0,
-        0,
-        0,
-        0,
-        0,
-        0,
-        0,
-        0,
-        0,
-        0,
-        0,
-        0,
-        0,
-        0,
     ];
     let regions = o.regions as usize;
     let n = 70 * regions;
+    zeros(store, 48);
     put_words(&head, store, 0);
     put_words(&plan[..n], store, 48);
 }

@@ -16,9 +16,9 @@ use Rattle.store.proofs.fill.put_store.Lts as lts
 use Rattle.store.proofs.fill.put_words.Reads as put-words-reads
 use Rattle.store.proofs.fill.word.Reads as word-reads
 
--- the head, with its two flags as words
-abbrev headWith : Opening → Lengths → ℕ → ℕ → List ℕ
-headWith o l r f =
+-- the settings and the lengths, with the two flags as words; the head has zeros behind them
+abbrev settings : Opening → Lengths → ℕ → ℕ → List ℕ
+settings o l r f =
     o .block
     ∷ o .depth
     ∷ o .lifetime
@@ -38,7 +38,10 @@ headWith o l r f =
     ∷ l .ready
     ∷ l .owners
     ∷ l .pool
-    ∷ replicate 29 0
+    ∷ []
+
+abbrev headWith : Opening → Lengths → ℕ → ℕ → List ℕ
+headWith o l r f = settings o l r f ++ replicate 29 0
 
 -- xs at the front, and ys behind it
 both-put : (xs ys s : List ℕ) (n : ℕ) → length xs ≡ n → take n (xs ++ drop n s) ++ ys ++ drop (n + length ys) (xs ++ drop n s) ≡ over (xs ++ ys) s
@@ -58,6 +61,9 @@ word-requires-2 c κs = search needs
 mul-n : tie.Need-mul-n
 mul-n c = search needs
 
+zeros-requires : tie.Need-zeros-requires
+zeros-requires c κs = search needs
+
 slice-aggregate-put-words : tie.Need-slice-aggregate-put-words
 slice-aggregate-put-words c = search needs
 
@@ -66,15 +72,15 @@ put-words-requires c κs = search needs
 
 slice-aggregate-put-words-2 : tie.Need-slice-aggregate-put-words-2
 slice-aggregate-put-words-2 c =
-    let start = c .before .before .before .before .before .before .before .before .before .before in
+    let start = c .before .before .before .before .before .before .before .before .before .before .before .before .before .before in
     sym (length-take-le (70 * start .args .o .regions) (start .args .plan .now) (start .pre .1 .0))
 
 put-words-requires-2 : tie.Need-put-words-requires-2
 put-words-requires-2 c κs =
-    let start = c .before .before .before .before .before .before .before .before .before .before .before in
+    let start = c .before .before .before .before .before .before .before .before .before .before .before .before .before .before .before in
     let len = length-take-le (70 * start .args .o .regions) (start .args .plan .now) (start .pre .1 .0) in
     let first : List ℕ = c .before .before .before .before .put-words .last .1 .0 in
-    let kept : length first ≡ length (start .args .store .now) = c .before .before .before .before .put-words .kept .1 .0 in
+    let kept : length first ≡ length (start .args .store .now) = c .before .before .before .before .put-words .kept .1 .0 ∙ c .before .before .before .before .before .before .before .before .before .zeros .kept .0 in
     let fits : 48 + length (take (70 * start .args .o .regions) (start .args .plan .now)) ≤ length first = omega (arith, len, kept, start .pre .1 .1) in
     fits
 
@@ -84,20 +90,23 @@ same-length c = search needs
 returns : tie.Need-returns
 unfolding storeOpened storeHead
 returns c =
-    let start = c .before .before .before .before .before .before .before .before .before .before .before .before .before .before in
+    let start = c .before .before .before .before .before .before .before .before .before .before .before .before .before .before .before .before .before .before in
     let o : Opening = start .args .o in
     let l : Lengths = start .args .l in
     let store : List ℕ = start .args .store .now in
     let regions : List ℕ = take (70 * o .regions) (start .args .plan .now) in
-    let r : ℕ = c .before .before .before .before .before .before .before .before .before .before .before .word .result in
-    let f : ℕ = c .before .before .before .before .before .before .before .before .before .before .word2 .result in
+    let r : ℕ = c .before .before .before .before .before .before .before .before .before .before .before .before .before .before .before .word .result in
+    let f : ℕ = c .before .before .before .before .before .before .before .before .before .before .before .before .before .before .word2 .result in
     let first : List ℕ = c .before .before .before .before .before .before .before .put-words .last .1 .0 in
-    let one : first ≡ headWith o l r f ++ drop 48 store = c .before .before .before .before .before .before .before .put-words .ensures in
+    let zeroed : List ℕ = c .before .before .before .before .before .before .before .before .before .before .before .before .zeros .last .0 in
+    let none : zeroed ≡ replicate 48 0 ++ drop 48 store = c .before .before .before .before .before .before .before .before .before .before .before .before .zeros .ensures in
+    let put : first ≡ settings o l r f ++ drop 19 zeroed = c .before .before .before .before .before .before .before .put-words .ensures in
+    let one : first ≡ headWith o l r f ++ drop 48 store = put ∙ ap (λ (v : List ℕ). settings o l r f ++ drop 19 v) none in
     let two : c .before .before .put-words2 .last .1 .0 ≡ take 48 first ++ regions ++ drop (48 + length regions) first = c .before .before .put-words2 .ensures in
     two
     ∙ ap (λ (x : List ℕ). take 48 x ++ regions ++ drop (48 + length regions) x) one
     ∙ both-put (headWith o l r f) regions store 48 refl
-    ∙ ap₂ (λ (x y : ℕ). over (headWith o l x y ++ regions) store) (c .before .before .before .before .before .before .before .before .before .before .before .word .ensures) (c .before .before .before .before .before .before .before .before .before .before .word2 .ensures)
+    ∙ ap₂ (λ (x y : ℕ). over (headWith o l x y ++ regions) store) (c .before .before .before .before .before .before .before .before .before .before .before .before .before .before .before .word .ensures) (c .before .before .before .before .before .before .before .before .before .before .before .before .before .before .word2 .ensures)
 
 pub put-store-spec : {M : Type 1} → statement M
 put-store-spec =
@@ -106,6 +115,7 @@ put-store-spec =
     word-requires
     word-requires-2
     mul-n
+    zeros-requires
     slice-aggregate-put-words
     put-words-requires
     slice-aggregate-put-words-2
