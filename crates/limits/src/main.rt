@@ -16,7 +16,6 @@ use plans::lifetime;
 use plans::many;
 use plans::placed;
 use plans::pool;
-use plans::region;
 use plans::run;
 use plans::second;
 use regionmap::Position;
