@@ -1,10 +1,11 @@
 -- What the opening's rules on numbers mean, as propositions: used instead of the tests' text.
 use mathlib.Core.Path.{_≡_}
 use mathlib.Core.Bool.{true}
-use Prim.Native.Nat.{ℕ, _+_, _*_, _-_, _^_, _≤_}
+use Prim.Native.Nat.{_-_, _^_, _≤_}
 use Rattle.layout.specs.Block.{isBlock, onBlock}
 use Rattle.model.specs.declared.Opening.{Opening}
 use Rattle.model.specs.declared.Lengths.{Lengths}
+use Rattle.model.specs.Opening.{storeWords, readyWords}
 
 pub record Numbers (o : Opening) : Type 0 where
   pub some-depth : 1 ≤ o .depth
@@ -24,7 +25,7 @@ pub record Numbers (o : Opening) : Type 0 where
 -- the row memory is long enough
 pub record Room (o : Opening) (l : Lengths) : Type 0 where
   pub rows : o .depth ≤ l .rows
-  pub store : 48 + 70 * o .regions ≤ l .store
+  pub store : storeWords (o .regions) ≤ l .store
   pub free : o .depth ≤ l .free
-  pub ready : 1 + 16 * o .depth ≤ l .ready
+  pub ready : readyWords (o .depth) ≤ l .ready
   pub owners : o .buffers ≤ l .owners

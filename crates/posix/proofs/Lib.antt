@@ -1,1 +1,2 @@
+-- The proofs of this crate.
 pub mod Laws

@@ -1,3 +1,4 @@
+-- The proofs of this crate.
 pub mod Small
 pub mod Turned
 pub mod Step

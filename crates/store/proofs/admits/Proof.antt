@@ -15,15 +15,6 @@ use Rattle.model.proofs.Rules.{numbers-mean, listed-mean}
 use Rattle.store.proofs.CardRuns.{few-runs}
 use Rattle.store.proofs.admits.Statement.{statement}
 use Rattle.store.proofs.admits.Tie as tie
-use Rattle.store.proofs.admits.Reads as reads
-use Rattle.store.proofs.admits.Lts as lts
-use Rattle.store.proofs.card.apart_rule.Reads as apart-rule-reads
-use Rattle.store.proofs.card.within_rule.Reads as within-rule-reads
-use Rattle.store.proofs.numbers.both.Reads as both-reads
-use Rattle.store.proofs.numbers.lengths.Reads as lengths-reads
-use Rattle.store.proofs.numbers.numbers.Reads as numbers-reads
-use Rattle.store.proofs.plan.each_region.Reads as each-region-reads
-use Rattle.store.proofs.plan.ids_rule.Reads as ids-rule-reads
 
 -- the parts of an opening's rules
 module _ (o : Opening) (plan : List ℕ) (l : Lengths) where

@@ -17,12 +17,6 @@ use Rattle.model.proofs.Opened.{length-up}
 use Rattle.store.specs.Prepared.{lengthsWith, Prepared}
 use Rattle.store.proofs.prepare.Statement.{statement}
 use Rattle.store.proofs.prepare.Tie as tie
-use Rattle.store.proofs.prepare.Reads as reads
-use Rattle.store.proofs.prepare.Lts as lts
-use Rattle.store.proofs.admits.Reads as admits-reads
-use Rattle.store.proofs.fill.count_up.Reads as count-up-reads
-use Rattle.store.proofs.fill.put_store.Reads as put-store-reads
-use Rattle.store.proofs.fill.zeros.Reads as zeros-reads
 
 -- the two cases
 module _ (o : Opening) (plan : List ℕ) (l : Lengths) (store free ready owners : List ℕ) where

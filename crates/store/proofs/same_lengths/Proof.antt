@@ -11,9 +11,6 @@ use Rattle.model.specs.declared.Lengths.{Lengths}
 use Rattle.model.specs.Memory.{sameLengths}
 use Rattle.store.proofs.same_lengths.Statement.{statement}
 use Rattle.store.proofs.same_lengths.Tie as tie
-use Rattle.store.proofs.same_lengths.Reads as reads
-use Rattle.store.proofs.same_lengths.Lts as lts
-use Rattle.store.proofs.numbers.both.Reads as both-reads
 
 -- the tests behind the first
 abbrev others : Lengths → List ℕ → Bool

@@ -3,10 +3,6 @@ use Prim.Native.Nat.{_-_, _≤_}
 use borrow.Author.Needs.{needs}
 use Rattle.limits.proofs.plans.full_region.Statement.{statement}
 use Rattle.limits.proofs.plans.full_region.Tie as tie
-use Rattle.limits.proofs.plans.full_region.Reads as reads
-use Rattle.limits.proofs.plans.full_region.Lts as lts
-use Rattle.limits.proofs.plans.counted.Reads as counted-reads
-use Rattle.limits.proofs.plans.region.Reads as region-reads
 
 abbrev Inv-loop : tie.InvT-loop
 Inv-loop h first p₀ j₀ p j = j ≤ 32

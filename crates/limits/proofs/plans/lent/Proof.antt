@@ -4,9 +4,6 @@ use native.Mathlib.Omega.{arith}
 use borrow.Author.Needs.{needs}
 use Rattle.limits.proofs.plans.lent.Statement.{statement}
 use Rattle.limits.proofs.plans.lent.Tie as tie
-use Rattle.limits.proofs.plans.lent.Reads as reads
-use Rattle.limits.proofs.plans.lent.Lts as lts
-use Rattle.limits.proofs.plans.few.Reads as few-reads
 
 few-requires : tie.Need-few-requires
 few-requires c κs = search needs

@@ -4,14 +4,6 @@ use lib.ListN.{length-take}
 use borrow.Author.Needs.{needs}
 use Rattle.limits.proofs.words.tried.Statement.{statement}
 use Rattle.limits.proofs.words.tried.Tie as tie
-use Rattle.limits.proofs.words.tried.Reads as reads
-use Rattle.limits.proofs.words.tried.Lts as lts
-use Rattle.limits.proofs.words.cut.Reads as cut-reads
-use Rattle.limits.proofs.words.ready_words.Reads as ready-words-reads
-use Rattle.limits.proofs.words.row_words.Reads as row-words-reads
-use Rattle.limits.proofs.words.say.Reads as say-reads
-use Rattle.limits.proofs.words.store_words.Reads as store-words-reads
-use Rattle.store.proofs.prepare.Reads as prepare-reads
 
 store-words-requires : tie.Need-store-words-requires
 store-words-requires c κs = search needs

@@ -10,8 +10,6 @@ use lib.ListN.{length, drop, set, length-set}
 use Rattle.model.specs.State.{upFrom}
 use Rattle.store.proofs.fill.count_up.Statement.{statement}
 use Rattle.store.proofs.fill.count_up.Tie as tie
-use Rattle.store.proofs.fill.count_up.Reads as reads
-use Rattle.store.proofs.fill.count_up.Lts as lts
 
 -- a store of the next number at its place
 counted : (k n : ℕ) (d : List ℕ) → n < length d → set (upFrom k n ++ drop n d) n (k + n) ≡ upFrom k (suc n) ++ drop (suc n) d

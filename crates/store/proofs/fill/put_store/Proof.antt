@@ -11,10 +11,6 @@ use Rattle.model.specs.declared.Lengths.{Lengths}
 use Rattle.model.specs.Memory.{word01, storeHead, over, storeOpened}
 use Rattle.store.proofs.fill.put_store.Statement.{statement}
 use Rattle.store.proofs.fill.put_store.Tie as tie
-use Rattle.store.proofs.fill.put_store.Reads as reads
-use Rattle.store.proofs.fill.put_store.Lts as lts
-use Rattle.store.proofs.fill.put_words.Reads as put-words-reads
-use Rattle.store.proofs.fill.word.Reads as word-reads
 
 -- the settings and the lengths, with the two flags as words; the head has zeros behind them
 abbrev settings : Opening → Lengths → ℕ → ℕ → List ℕ

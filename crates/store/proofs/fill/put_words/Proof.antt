@@ -9,8 +9,6 @@ use lib.ListN.{length, take, drop, getD, set, length-set}
 use lib.Seq.{paste, paste-zero, paste-suc, take-length}
 use Rattle.store.proofs.fill.put_words.Statement.{statement}
 use Rattle.store.proofs.fill.put_words.Tie as tie
-use Rattle.store.proofs.fill.put_words.Reads as reads
-use Rattle.store.proofs.fill.put_words.Lts as lts
 
 abbrev Inv-loop : tie.InvT-loop
 Inv-loop src dst₀ at i₀ dst i = (i ≤ length src) × (dst ≡ paste dst₀ at src i) × (length dst ≡ length dst₀)

@@ -8,8 +8,6 @@ use borrow.Author.Needs.{needs}
 use lib.ListN.{length, drop, replicate, set, length-set}
 use Rattle.store.proofs.fill.zeros.Statement.{statement}
 use Rattle.store.proofs.fill.zeros.Tie as tie
-use Rattle.store.proofs.fill.zeros.Reads as reads
-use Rattle.store.proofs.fill.zeros.Lts as lts
 
 abbrev Inv-loop : tie.InvT-loop
 Inv-loop dst₀ n i₀ dst i = (i ≤ n) × (dst ≡ replicate i 0 ++ drop i dst₀) × (length dst ≡ length dst₀)

@@ -4,53 +4,37 @@ use Rattle.regionmap.specs.Words.{mapIn}
 use Rattle.model.specs.Opening.{blocksRule}
 use Rattle.store.proofs.plan.blocks_rule.Statement.{statement}
 use Rattle.store.proofs.plan.blocks_rule.Tie as tie
-use Rattle.store.proofs.plan.blocks_rule.Reads as reads
-use Rattle.store.proofs.plan.blocks_rule.Lts as lts
-use Rattle.layout.proofs.on_block.Reads as on-block-reads
-use Rattle.store.proofs.numbers.both.Reads as both-reads
-use Rattle.store.proofs.plan.runs_on_block.Reads as runs-on-block-reads
 
--- src/plan.rt:66:41
 shared-slice-read-on-block : tie.Need-shared-slice-read-on-block
 shared-slice-read-on-block c = search needs
 
--- src/plan.rt:66:9
 on-block-requires : tie.Need-on-block-requires
 on-block-requires c κs = search needs
 
--- src/plan.rt:67:44
 shared-slice-read-on-block-2 : tie.Need-shared-slice-read-on-block-2
 shared-slice-read-on-block-2 c = search needs
 
--- src/plan.rt:67:9
 on-block-requires-2 : tie.Need-on-block-requires-2
 on-block-requires-2 c κs = search needs
 
--- src/plan.rt:68:40
 shared-slice-read-on-block-3 : tie.Need-shared-slice-read-on-block-3
 shared-slice-read-on-block-3 c = search needs
 
--- src/plan.rt:68:9
 on-block-requires-3 : tie.Need-on-block-requires-3
 on-block-requires-3 c κs = search needs
 
--- src/plan.rt:69:43
 runs-on-block-requires : tie.Need-runs-on-block-requires
 runs-on-block-requires c κs = search needs
 
--- src/plan.rt:69:32
 both-requires : tie.Need-both-requires
 both-requires c κs = search needs
 
--- src/plan.rt:69:17
 both-requires-2 : tie.Need-both-requires-2
 both-requires-2 c κs = search needs
 
--- src/plan.rt:69:5
 both-requires-3 : tie.Need-both-requires-3
 both-requires-3 c κs = search needs
 
--- src/plan.rt:62:1
 returns : tie.Need-returns
 unfolding blocksRule mapIn
 returns c = cc (c .before .before .before .before .before .before .before .before .before .before .before .pre .1 .1)

@@ -14,9 +14,6 @@ use Rattle.store.proofs.Walk.{Walk, stops, goes, ends}
 use Rattle.store.proofs.Steps.{regionWords, plans-step, plans-end, plans-all, part-of-70}
 use Rattle.store.proofs.plan.each_region.Statement.{statement}
 use Rattle.store.proofs.plan.each_region.Tie as tie
-use Rattle.store.proofs.plan.each_region.Reads as reads
-use Rattle.store.proofs.plan.each_region.Lts as lts
-use Rattle.store.proofs.plan.region_rule.Reads as region-rule-reads
 
 walk : (b : ℕ) (ws : List ℕ) (n : ℕ) → Walk n (eachRegion b (plansIn n ws)) (λ h. regionRule b (planIn (regionWords ws h))) (λ h. eachRegion b (plansFrom ws n h))
 unfolding eachRegion

@@ -13,8 +13,6 @@ use Rattle.store.specs.Plans.{plansFrom, idsFrom}
 use Rattle.store.proofs.Steps.{plans-step, plans-end, id-word}
 use Rattle.store.proofs.plan.id_among.Statement.{statement}
 use Rattle.store.proofs.plan.id_among.Tie as tie
-use Rattle.store.proofs.plan.id_among.Reads as reads
-use Rattle.store.proofs.plan.id_among.Lts as lts
 
 among-step : (id : ℕ) (ws : List ℕ) (n h : ℕ) → h < n → among id (idsFrom ws n h) ≡ (eqb id (getD ws (70 * h) 0) || among id (idsFrom ws n (h + 1)))
 unfolding among

@@ -13,9 +13,6 @@ use Rattle.store.proofs.Walk.{Walk, stops, goes, ends}
 use Rattle.store.proofs.Steps.{plans-step, plans-end, plans-all, id-word}
 use Rattle.store.proofs.plan.ids_rule.Statement.{statement}
 use Rattle.store.proofs.plan.ids_rule.Tie as tie
-use Rattle.store.proofs.plan.ids_rule.Reads as reads
-use Rattle.store.proofs.plan.ids_rule.Lts as lts
-use Rattle.store.proofs.plan.id_among.Reads as id-among-reads
 
 -- the h-th id is none of those behind it
 abbrev unlike : List ℕ → ℕ → ℕ → Bool

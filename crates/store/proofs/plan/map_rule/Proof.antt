@@ -13,11 +13,6 @@ use Rattle.model.specs.Opening.{mapRule, blocksRule}
 use Rattle.model.proofs.Maps.{runs-length}
 use Rattle.store.proofs.plan.map_rule.Statement.{statement}
 use Rattle.store.proofs.plan.map_rule.Tie as tie
-use Rattle.store.proofs.plan.map_rule.Reads as reads
-use Rattle.store.proofs.plan.map_rule.Lts as lts
-use Rattle.store.proofs.numbers.both.Reads as both-reads
-use Rattle.store.proofs.plan.blocks_rule.Reads as blocks-rule-reads
-use Rattle.store.proofs.plan.starts_rise.Reads as starts-rise-reads
 
 shared-slice-read-runs : tie.Need-shared-slice-read-runs
 shared-slice-read-runs c = search needs

@@ -12,10 +12,6 @@ use Rattle.model.specs.Memory.{planIn}
 use Rattle.store.proofs.Steps.{to-the-end}
 use Rattle.store.proofs.plan.region_rule.Statement.{statement}
 use Rattle.store.proofs.plan.region_rule.Tie as tie
-use Rattle.store.proofs.plan.region_rule.Reads as reads
-use Rattle.store.proofs.plan.region_rule.Lts as lts
-use Rattle.store.proofs.numbers.both.Reads as both-reads
-use Rattle.store.proofs.plan.map_rule.Reads as map-rule-reads
 
 shared-slice-read-generation : tie.Need-shared-slice-read-generation
 shared-slice-read-generation c = search needs

@@ -1,10 +1,7 @@
+-- `store::plan::run_on_block` meets its contract: both tests are the definition's.
 use borrow.Author.Needs.{needs}
 use Rattle.store.proofs.plan.run_on_block.Statement.{statement}
 use Rattle.store.proofs.plan.run_on_block.Tie as tie
-use Rattle.store.proofs.plan.run_on_block.Reads as reads
-use Rattle.store.proofs.plan.run_on_block.Lts as lts
-use Rattle.layout.proofs.on_block.Reads as on-block-reads
-use Rattle.store.proofs.numbers.both.Reads as both-reads
 
 mul-start : tie.Need-mul-start
 mul-start c = search needs

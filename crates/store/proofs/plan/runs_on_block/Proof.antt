@@ -15,9 +15,6 @@ use Rattle.store.proofs.Walk.{Walk, stops, goes, ends}
 use Rattle.store.proofs.Steps.{runsFrom, runs-step, runs-end, runs-all}
 use Rattle.store.proofs.plan.runs_on_block.Statement.{statement}
 use Rattle.store.proofs.plan.runs_on_block.Tie as tie
-use Rattle.store.proofs.plan.runs_on_block.Reads as reads
-use Rattle.store.proofs.plan.runs_on_block.Lts as lts
-use Rattle.store.proofs.plan.run_on_block.Reads as run-on-block-reads
 
 -- whether the j-th run is on the block, and whether those from the j-th on are
 abbrev one : ℕ → List ℕ → ℕ → Bool
