@@ -35,7 +35,7 @@ use Rattle.model.specs.declared.Gate.{Gate}
 use Rattle.model.specs.declared.Gate.the-variants.{Open, Recycled, Released}
 use Rattle.model.specs.declared.Counts.{Counts}
 use Rattle.model.specs.declared.Row.{Row}
-use Rattle.model.specs.State.{Region, Owner, Owner.host, Owner.table, Owner.lost, State, freed, upFrom}
+use Rattle.model.specs.State.{Region, noRegion, Owner, Owner.host, Owner.table, Owner.lost, State, freed, upFrom}
 use Rattle.model.specs.Opening.{Plan, admits}
 
 -- what the host lends
@@ -112,10 +112,6 @@ regionsIn (suc n) marks ws = regionIn (take 3 marks) (take 70 ws) ∷ regionsIn 
 
 unfoldable pub ownerIn : ℕ → Owner
 ownerIn n = pick (eqb n 0) host (pick (eqb n 1) table lost)
-
--- what stands past the list of regions
-unfoldable pub noRegion : Region
-noRegion = regionIn [] []
 
 -- a completion, of the settings, the regions and its own 16 words: 0 the host's tag, 1 the outcome (1 written, 2 written with receipt, 3 read,
 -- 4 unknown, 5 interrupted, 6 media, 7 Io, 8 queue full, 9 poisoned), 2 the handle, 3 start, 4 end, 5 the ticket's need, 6 the receipt's need or

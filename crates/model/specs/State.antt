@@ -8,6 +8,7 @@ use Rattle.completion.specs.declared.Completion.{Completion}
 use Rattle.model.specs.declared.Opening.{Opening}
 use Rattle.model.specs.declared.Lengths.{Lengths}
 use Rattle.model.specs.declared.Gate.{Gate}
+use Rattle.model.specs.declared.Gate.the-variants.{Open}
 use Rattle.model.specs.declared.Counts.{Counts}
 use Rattle.model.specs.declared.Row.{Row}
 use Rattle.model.specs.declared.Awaits.{Awaits}
@@ -22,6 +23,10 @@ pub record Region : Type 0 where
   pub gate : Gate
   pub readOnly : Bool
   pub forced : Bool
+
+-- what stands past the list of regions
+unfoldable pub noRegion : Region
+noRegion = record { id = 0; generation = 0; map = record { first = 0; more = []; capacity = 0; dataLength = 0 }; gate = Open; readOnly = false; forced = false }
 
 -- who has a buffer: the host; the table, from acceptance until the host gets it back; or nobody any more: "A buffer that did not come back is
 -- never accepted again."

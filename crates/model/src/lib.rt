@@ -1,6 +1,8 @@
 // The table as data: what a row holds, the counts, what an opening is given (store-io's optable.rs and store.rs have them as Row, Live,
 // Kind, Split, Table and Inner). The state, the calls and what they do are definitions in specs/; the crates above run them.
+use completion::Refusal;
 use completion::WriteTicket;
+use regionmap::FoundPiece;
 use regionmap::Position;
 
 // What an operation in flight is, in the region's positions (optable.rs's Kind, without appends and barriers): Page is a write.
@@ -72,4 +74,33 @@ pub struct Lengths {
     pub ready: u64,
     pub owners: u64,
     pub pool: u64,
+}
+
+// "A request names a region handle, a position (volume, region, generation, offset), a buffer, its length, plain or durable, and the host's tag."
+pub struct Request {
+    pub handle: u64,
+    pub volume: u64,
+    pub region: u64,
+    pub generation: u64,
+    pub offset: Position,
+    pub buffer: u64,
+    pub length: u64,
+    pub durable: bool,
+    pub tag: u64,
+}
+
+// How a question, or several in their order, are answered: yes to all, or the first no.
+pub enum Asked {
+    Yes,
+    No(Refusal),
+}
+
+// What a submission comes to: turned away, or accepted in the row on top of the free stack, as this kind of operation, with this first piece.
+pub enum Verdict {
+    No(Refusal),
+    Accept {
+        row: u64,
+        kind: Kind,
+        piece: FoundPiece,
+    },
 }

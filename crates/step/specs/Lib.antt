@@ -1,0 +1,4 @@
+pub mod Questions
+pub mod Step
+pub mod Sound
+pub mod Laws

@@ -1,0 +1,155 @@
+-- Document 01, "A submission, question by question": each question once, in the write's order and with its sentence, then the write's list and the
+-- read's. "The first question that fails decides."
+use mathlib.Core.Bool.{Bool, true, false, not, _&&_}
+use mathlib.Core.List.{List, [], _∷_}
+use Prim.Native.Nat.{ℕ, _+_, _-_, _^_, min}
+use lib.ListN.{getD}
+use lib.Dec.{leb, ltb, eqb}
+use Rattle.layout.specs.Block.{onBlock}
+use Rattle.regionmap.specs.Words.{positionOf}
+use Rattle.domain.specs.declared.Poisoned.{Poisoned}
+use Rattle.domain.specs.declared.Poisoned.the-variants.{Never, First}
+use Rattle.completion.specs.declared.Context.{Context}
+use Rattle.completion.specs.declared.Context.the-variants.{None as bare, Region as withRegion, Range as withRange}
+use Rattle.completion.specs.declared.Refusal.{Refusal}
+use Rattle.completion.specs.declared.Refusal.the-variants.{ForeignPosition, ForeignBuffer, QueueFull, StaleGeneration, NotReady, ReadOnly, Poisoned as poisonedBy, Empty, Misaligned, OutOfBounds, NotHeld, LifetimeSpent}
+use Rattle.model.specs.declared.Counts.{Counts}
+use Rattle.model.specs.declared.Gate.{Gate}
+use Rattle.model.specs.declared.Gate.the-variants.{Open, Recycled, Released}
+use Rattle.model.specs.declared.Request.{Request}
+use Rattle.model.specs.declared.Asked.{Asked}
+use Rattle.model.specs.declared.Asked.the-variants.{Yes, No}
+use Rattle.model.specs.State.{Region, noRegion, Owner, Owner.host, Owner.table, Owner.lost, State}
+
+-- a question: yes, or the refusal
+unfoldable pub ask : Bool → Refusal → Asked
+ask true f = Yes
+ask false f = No f
+
+-- the first no of a list, or yes
+unfoldable pub firstNo : List Asked → Asked
+firstNo [] = Yes
+firstNo (Yes ∷ more) = firstNo more
+firstNo (No f ∷ more) = No f
+
+-- "Context is the region's id."
+abbrev pub idOf : Region → Context
+idOf g = withRegion (g .id)
+
+-- "Questions 12 to 14 of a read add the range, its end capped at 2^64 − 1."
+unfoldable pub idAndRange : Region → Request → Context
+idAndRange g q = withRange (record { region = g .id; start = q .offset; end = positionOf (min (q .offset .0 + q .length) (2 ^ 64 - 1)) })
+
+-- 1. "Does the handle name a region? No: 1 ForeignPosition, no context."
+unfoldable pub handleNamesRegion : ℕ → Request → Asked
+handleNamesRegion regions q = ask (ltb (q .handle) regions) (ForeignPosition bare)
+
+-- 2. "Is the buffer in the pool, its length within capacity? No: 2 ForeignBuffer."
+unfoldable pub bufferInPool : ℕ → ℕ → Context → Request → Asked
+bufferInPool buffers capacity c q = ask (ltb (q .buffer) buffers && leb (q .length) capacity) (ForeignBuffer c)
+
+-- 3. "Does the host hold the buffer? No: 11"
+unfoldable pub isHost : Owner → Bool
+isHost host = true
+isHost table = false
+isHost lost = false
+
+unfoldable pub hostHoldsBuffer : Bool → Context → Asked
+hostHoldsBuffer held c = ask held (NotHeld c)
+
+-- 4. "Is live + ready below depth? No: 3 QueueFull."
+unfoldable pub roomInTable : ℕ → Counts → Context → Asked
+roomInTable depth counts c = ask (ltb (counts .live + counts .ready) depth) (QueueFull c)
+
+-- 5. "Is a submission of the lifetime left? No: 12"
+unfoldable pub lifetimeLeft : ℕ → Counts → Context → Asked
+lifetimeLeft lifetime counts c = ask (ltb (counts .submissions) lifetime) (LifetimeSpent c)
+
+-- 6. "Is the region's gate open? No: recycled 4 StaleGeneration, released 5 NotReady."
+unfoldable pub gateOpen : Gate → Context → Asked
+gateOpen Open c = Yes
+gateOpen Recycled c = No (StaleGeneration c)
+gateOpen Released c = No (NotReady c)
+
+-- 7. "May the store be written? No: 6 ReadOnly, no context."
+unfoldable pub storeWritable : Bool → Asked
+storeWritable readOnly = ask (not readOnly) (ReadOnly bare)
+
+-- 8. "Is the store unpoisoned? No: 7 Poisoned, with the first cause."
+unfoldable pub unpoisoned : Poisoned → Asked
+unpoisoned Never = Yes
+unpoisoned (First cause) = No (poisonedBy cause)
+
+-- 9. "May the region be written? No: 6."
+unfoldable pub regionWritable : Bool → Context → Asked
+regionWritable readOnly c = ask (not readOnly) (ReadOnly c)
+
+-- 10. "Do volume and region match? No: 1."
+unfoldable pub volumeAndRegionMatch : ℕ → ℕ → Context → Request → Asked
+volumeAndRegionMatch volume id c q = ask (eqb (q .volume) volume && eqb (q .region) id) (ForeignPosition c)
+
+-- 11. "Does the generation match? No: 4."
+unfoldable pub generationMatches : ℕ → Context → Request → Asked
+generationMatches generation c q = ask (eqb (q .generation) generation) (StaleGeneration c)
+
+-- 12. "Is the length above 0? No: 8 Empty."
+unfoldable pub lengthAbove0 : Context → Request → Asked
+lengthAbove0 c q = ask (ltb 0 (q .length)) (Empty c)
+
+-- 13. "Is the length a multiple of the block? No: 9 Misaligned. `check` does not test the offset."
+unfoldable pub writeOnBlock : ℕ → Request → Bool
+writeOnBlock block q = onBlock block (q .length)
+
+-- .. of a read: "then 13 for offset and length"
+unfoldable pub readOnBlock : ℕ → Request → Bool
+readOnBlock block q = onBlock block (q .offset .0) && onBlock block (q .length)
+
+unfoldable pub aligned : Bool → Context → Asked
+aligned multiple c = ask multiple (Misaligned c)
+
+-- 14. "Is offset + length, without overflow, within the data? No: 10 OutOfBounds."
+unfoldable pub withinData : ℕ → Context → Request → Asked
+withinData dataLength c q = ask (ltb (q .offset .0 + q .length) (2 ^ 64) && leb (q .offset .0 + q .length) dataLength) (OutOfBounds c)
+
+-- the region of a handle
+unfoldable pub regionAt : State → ℕ → Region
+regionAt s h = getD (s .regions) h noRegion
+
+-- whether the host holds a buffer
+unfoldable pub heldAt : State → ℕ → Bool
+heldAt s b = isHost (getD (s .owners) b lost)
+
+-- "Write": questions 1 to 14
+unfoldable pub writeQuestions : State → Region → Request → List Asked
+writeQuestions s g q =
+    handleNamesRegion (s .settings .regions) q
+    ∷ bufferInPool (s .settings .buffers) (s .settings .capacity) (idOf g) q
+    ∷ hostHoldsBuffer (heldAt s (q .buffer)) (idOf g)
+    ∷ roomInTable (s .settings .depth) (s .counts) (idOf g)
+    ∷ lifetimeLeft (s .settings .lifetime) (s .counts) (idOf g)
+    ∷ gateOpen (g .gate) (idOf g)
+    ∷ storeWritable (s .settings .«read_only»)
+    ∷ unpoisoned (s .poison)
+    ∷ regionWritable (g .readOnly) (idOf g)
+    ∷ volumeAndRegionMatch (s .settings .volume) (g .id) (idOf g) q
+    ∷ generationMatches (g .generation) (idOf g) q
+    ∷ lengthAbove0 (idOf g) q
+    ∷ aligned (writeOnBlock (s .settings .block) q) (idOf g)
+    ∷ withinData (g .map .dataLength) (idOf g) q
+    ∷ []
+
+-- "Read: questions 1, 10, 11, 2, 3, 4, 5, 6, 12; then 13 for offset and length; then 14. Poison and read-only do not stop a read"
+unfoldable pub readQuestions : State → Region → Request → List Asked
+readQuestions s g q =
+    handleNamesRegion (s .settings .regions) q
+    ∷ volumeAndRegionMatch (s .settings .volume) (g .id) (idOf g) q
+    ∷ generationMatches (g .generation) (idOf g) q
+    ∷ bufferInPool (s .settings .buffers) (s .settings .capacity) (idOf g) q
+    ∷ hostHoldsBuffer (heldAt s (q .buffer)) (idOf g)
+    ∷ roomInTable (s .settings .depth) (s .counts) (idOf g)
+    ∷ lifetimeLeft (s .settings .lifetime) (s .counts) (idOf g)
+    ∷ gateOpen (g .gate) (idOf g)
+    ∷ lengthAbove0 (idAndRange g q) q
+    ∷ aligned (readOnBlock (s .settings .block) q) (idAndRange g q)
+    ∷ withinData (g .map .dataLength) (idAndRange g q) q
+    ∷ []
