@@ -2,3 +2,4 @@ pub mod Questions
 pub mod Step
 pub mod Sound
 pub mod Laws
+pub mod Figures
