@@ -95,8 +95,8 @@ accepted s r k q =
 
 -- the state and the reply that a verdict leads to
 unfoldable pub submitted : State → Request → Verdict → State × Reply
-submitted s q (refuses f) = (s , turnedAway f)
-submitted s q (Accept r k p) = (accepted s r k q , piece (queueTag r (rowAt s r .generation)) (p .offset) (p .count) (q .buffer))
+submitted s q (refuses f) = (s, turnedAway f)
+submitted s q (Accept r k p) = (accepted s r k q, piece (queueTag r (rowAt s r .generation)) (p .offset) (p .count) (q .buffer))
 
 -- ---- the step
 
@@ -111,4 +111,4 @@ called s (readPage q) = submitted s q (readVerdict s q)
 
 -- "A later call with another length of row memory or pool gets 13 first."
 unfoldable pub step : State → Lengths → Call → State × Reply
-step s l c = pick (eqLengths l (s .lengths)) (called s c) (s , turnedAway Unfit)
+step s l c = pick (eqLengths l (s .lengths)) (called s c) (s, turnedAway Unfit)
