@@ -89,6 +89,12 @@ pub struct Request {
     pub tag: u64,
 }
 
+// What a host calls, once a table is open.
+pub enum Call {
+    Write(Request),
+    ReadPage(Request),
+}
+
 // How a question, or several in their order, are answered: yes to all, or the first no.
 pub enum Asked {
     Yes,

@@ -15,11 +15,13 @@ use Rattle.completion.specs.Numbers.{number}
 use Rattle.model.specs.declared.Opening.{Opening}
 use Rattle.model.specs.declared.Lengths.{Lengths}
 use Rattle.model.specs.declared.Request.{Request}
+use Rattle.model.specs.declared.Call.{Call}
+use Rattle.model.specs.declared.Call.the-variants.{Write, ReadPage}
 use Rattle.model.specs.State.{State}
 use Rattle.model.specs.Opening.{opened}
 use Rattle.model.specs.Memory.{plansIn, opens}
 use Rattle.step.specs.Questions.{regionAt}
-use Rattle.step.specs.Step.{Call, Call.write, Call.readPage, step, begun}
+use Rattle.step.specs.Step.{step, begun}
 use Rattle.step.specs.Laws.{issuedUpTo}
 
 unfoldable pub figuresOpening : Opening
@@ -60,15 +62,15 @@ pub record Figures : Type 0 where
   -- the opening is admitted
   pub opens-them : opens figuresOpening figuresPlan figuresLengths ≡ true
   -- "*Write 512, length 1,024: tag 0, piece (1,536, 512)."
-  pub write-512 : replyTo (write (asking 512 1024)) ≡ piece 0 (offsetOf 1536) 512 0
+  pub write-512 : replyTo (Write (asking 512 1024)) ≡ piece 0 (offsetOf 1536) 512 0
   -- "*Length 512 at 1,536: one piece, offset 8,704."
-  pub at-1536 : replyTo (write (asking 1536 512)) ≡ piece 0 (offsetOf 8704) 512 0
+  pub at-1536 : replyTo (Write (asking 1536 512)) ≡ piece 0 (offsetOf 8704) 512 0
   pub one-piece : issuedUpTo 512 (regionAt figuresTable 0 .map) 1536 (begun 512) ≡ record { position = 1536; count = 512 } ∷ []
   -- "*Length 1,024 there: 10. *Offset 2^64 − 512, length 512: 10."
-  pub too-long : numberOf (replyTo (write (asking 1536 1024))) ≡ some 10
-  pub far-out : numberOf (replyTo (write (asking (2 ^ 64 - 512) 512))) ≡ some 10
+  pub too-long : numberOf (replyTo (Write (asking 1536 1024))) ≡ some 10
+  pub far-out : numberOf (replyTo (Write (asking (2 ^ 64 - 512) 512))) ≡ some 10
   -- "*Read of 512 at 256: 9. *Write of 512 at 256: offset 1,280."
-  pub read-256 : numberOf (replyTo (readPage (asking 256 512))) ≡ some 9
-  pub write-256 : replyTo (write (asking 256 512)) ≡ piece 0 (offsetOf 1280) 512 0
+  pub read-256 : numberOf (replyTo (ReadPage (asking 256 512))) ≡ some 9
+  pub write-256 : replyTo (Write (asking 256 512)) ≡ piece 0 (offsetOf 1280) 512 0
   -- "*Length 0: 8."
-  pub empty : numberOf (replyTo (write (asking 512 0))) ≡ some 8
+  pub empty : numberOf (replyTo (Write (asking 512 0))) ≡ some 8

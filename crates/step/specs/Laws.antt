@@ -18,11 +18,12 @@ use Rattle.model.specs.declared.Opening.{Opening}
 use Rattle.model.specs.declared.Lengths.{Lengths}
 use Rattle.model.specs.declared.Split.{Split}
 use Rattle.model.specs.declared.Request.{Request}
+use Rattle.model.specs.declared.Call.{Call}
 use Rattle.model.specs.State.{State}
 use Rattle.model.specs.Opening.{opened}
 use Rattle.model.specs.Memory.{plansIn, opens}
 use Rattle.step.specs.Questions.{regionAt}
-use Rattle.step.specs.Step.{Call, step, pieceOf, begun}
+use Rattle.step.specs.Step.{step, pieceOf, begun}
 use Rattle.step.specs.Sound.{Sound}
 
 -- the split after a piece is answered whole

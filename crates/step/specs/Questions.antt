@@ -6,6 +6,7 @@ use Prim.Native.Nat.{ℕ, _+_, _-_, _^_, min}
 use lib.ListN.{getD}
 use lib.Dec.{leb, ltb, eqb}
 use Rattle.layout.specs.Block.{onBlock}
+use Rattle.regionmap.specs.declared.Position.{Position}
 use Rattle.regionmap.specs.Words.{positionOf}
 use Rattle.domain.specs.declared.Poisoned.{Poisoned}
 use Rattle.domain.specs.declared.Poisoned.the-variants.{Never, First}
@@ -37,8 +38,11 @@ abbrev pub idOf : Region → Context
 idOf g = withRegion (g .id)
 
 -- "Questions 12 to 14 of a read add the range, its end capped at 2^64 − 1."
-unfoldable pub idAndRange : Region → Request → Context
-idAndRange g q = withRange (record { region = g .id; start = q .offset; end = positionOf (min (q .offset .0 + q .length) (2 ^ 64 - 1)) })
+unfoldable pub rangeFrom : ℕ → Position → ℕ → Context
+rangeFrom id start length = withRange (record { region = id; start = start; end = positionOf (min (start .0 + length) (2 ^ 64 - 1)) })
+
+abbrev pub idAndRange : Region → Request → Context
+idAndRange g q = rangeFrom (g .id) (q .offset) (q .length)
 
 -- 1. "Does the handle name a region? No: 1 ForeignPosition, no context."
 unfoldable pub handleNamesRegion : ℕ → Request → Asked

@@ -20,17 +20,14 @@ use Rattle.model.specs.declared.Split.{Split}
 use Rattle.model.specs.declared.Awaits.the-variants.{Piece}
 use Rattle.model.specs.declared.Row.{Row}
 use Rattle.model.specs.declared.Request.{Request}
+use Rattle.model.specs.declared.Call.{Call}
+use Rattle.model.specs.declared.Call.the-variants.{Write, ReadPage}
 use Rattle.model.specs.declared.Asked.{Asked}
 use Rattle.model.specs.declared.Asked.the-variants.{Yes, No}
 use Rattle.model.specs.declared.Verdict.{Verdict}
 use Rattle.model.specs.declared.Verdict.the-variants.{No as refuses, Accept}
 use Rattle.model.specs.State.{Region, Owner, Owner.table, State, freed}
 use Rattle.step.specs.Questions.{regionAt, firstNo, writeQuestions, readQuestions}
-
--- what a host calls; the answers, takings and other calls join with their own rules
-pub data Call : Type 0 where
-  write : Request → Call
-  readPage : Request → Call
 
 -- ---- an operation and its pieces
 
@@ -106,8 +103,8 @@ eqLengths a b =
     eqb (a .rows) (b .rows) && (eqb (a .store) (b .store) && (eqb (a .free) (b .free) && (eqb (a .ready) (b .ready) && (eqb (a .owners) (b .owners) && eqb (a .pool) (b .pool)))))
 
 unfoldable pub called : State → Call → State × Reply
-called s (write q) = submitted s q (writeVerdict s q)
-called s (readPage q) = submitted s q (readVerdict s q)
+called s (Write q) = submitted s q (writeVerdict s q)
+called s (ReadPage q) = submitted s q (readVerdict s q)
 
 -- "A later call with another length of row memory or pool gets 13 first."
 unfoldable pub step : State → Lengths → Call → State × Reply
