@@ -1,0 +1,99 @@
+// The region's record and the store's poison, read from the store's words (store-io's store.rs: LiveRegion, and Inner's domain).
+ghost use mathlib.Core.Path.{_≡_};
+ghost use Prim.Native.Nat.{_≤_, _<_, _^_};
+ghost use lib.ListN.{length};
+ghost use mathlib.Core.Bool.{true};
+ghost use Rattle.model.specs.Memory.{flag, gateIn, opIn, errorIn, poisonIn};
+ghost use Rattle.liveregion.specs.Live.{InStore, regionOf, liveOf, ShortError};
+use domain::FirstCause;
+use domain::Op;
+use domain::OsError;
+use domain::Poisoned;
+use model::Gate;
+
+// What a submission is asked about its region: LiveRegion without its map, which stays where it lies.
+pub struct LiveRegion {
+    pub id: u64,
+    pub generation: u64,
+    pub data: u64,
+    pub gate: Gate,
+    pub read_only: bool,
+}
+
+// A gate in a word.
+fn gate_of(word: u64) -> Gate
+    ensures { λ r. ⌜ r ≡ gateIn word ⌝ }
+{
+    match word {
+        0 => Gate::Open,
+        1 => Gate::Recycled,
+        _ => Gate::Released,
+    }
+}
+
+// The region at a handle; blank where the words are too few.
+pub fn region_at(store: &[u64], handle: u64) -> LiveRegion
+    ensures { λ r. ⌜ (InStore (now (store .entry)) handle → r ≡ liveOf (regionOf (now (store .entry)) handle)) ⌝ }
+{
+    let blank = LiveRegion {
+        id: 0,
+        generation: 0,
+        data: 0,
+        gate: Gate::Open,
+        read_only: false,
+    };
+    if 8 <= handle {
+        return blank;
+    }
+    let h = handle as usize;
+    let at = 48 + 70 * h;
+    if store.len() < at + 70 {
+        return blank;
+    }
+    LiveRegion {
+        id: store[at],
+        generation: store[at + 1],
+        data: store[at + 4],
+        gate: gate_of(store[24 + 3 * h]),
+        read_only: store[25 + 3 * h] != 0,
+    }
+}
+
+// An operation in a word.
+fn op_of(word: u64) -> Op
+    ensures { λ r. ⌜ r ≡ opIn word ⌝ }
+{
+    match word {
+        0 => Op::None,
+        1 => Op::Read,
+        2 => Op::Write,
+        _ => Op::Flush,
+    }
+}
+
+// An OS error in two words; the lower 32 bits of the second are taken.
+fn error_of(has: u64, word: u64) -> OsError
+    ensures { λ r. ⌜ ((flag has ≡ true → word < 2 ^ 32) → r ≡ errorIn has word) ⌝ }
+{
+    if has == 0 {
+        OsError::None
+    } else {
+        OsError::Raw(word as u32)
+    }
+}
+
+// Whether the store is poisoned, and by which cause first (Domain::poisoned); not poisoned where the words are too few.
+pub fn poisoned(store: &[u64]) -> Poisoned
+    ensures { λ r. ⌜ (48 ≤ length (now (store .entry)) → ShortError (now (store .entry)) → r ≡ poisonIn (now (store .entry))) ⌝ }
+{
+    if store.len() < 48 {
+        return Poisoned::Never;
+    }
+    if store[19] == 0 {
+        return Poisoned::Never;
+    }
+    Poisoned::First(FirstCause {
+        op: op_of(store[20]),
+        raw: error_of(store[21], store[22]),
+    })
+}

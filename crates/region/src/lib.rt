@@ -1,0 +1,66 @@
+// What a request is asked of its region (store-io's region.rs, PageRegion::check, and the same tests of Submitter::read_page and read).
+ghost use mathlib.Core.Path.{_≡_};
+ghost use mathlib.Core.Bool.{_&&_};
+ghost use mathlib.Core.List.{[], _∷_};
+ghost use Prim.Native.Nat.{_+_, _^_};
+ghost use lib.Dec.{leb, ltb};
+ghost use Rattle.step.specs.Questions.{firstNo, volumeAndRegionMatch, generationMatches, lengthAbove0, aligned, withinData, writeOnBlock, readOnBlock};
+use completion::Context;
+use completion::Refusal;
+use model::Asked;
+use model::Request;
+use regionmap::Position;
+
+// Questions 10 and 11: do volume and region match, does the generation?
+pub fn names(volume: u64, id: u64, generation: u64, c: Context, q: Request) -> Asked
+    ensures { λ r. ⌜ r ≡ firstNo (volumeAndRegionMatch volume id c q ∷ generationMatches generation c q ∷ []) ⌝ }
+{
+    if q.volume != volume {
+        return Asked::No(Refusal::ForeignPosition(c));
+    }
+    if q.region != id {
+        return Asked::No(Refusal::ForeignPosition(c));
+    }
+    ready::ask(q.generation == generation, Refusal::StaleGeneration(c))
+}
+
+// Question 13 of a write: "`check` does not test the offset."
+pub fn write_on_block(block: u64, q: Request) -> bool
+    ensures { λ r. ⌜ r ≡ writeOnBlock block q ⌝ }
+{
+    layout::on_block(block, q.length)
+}
+
+// Question 13 of a read: "for offset and length".
+pub fn read_on_block(block: u64, q: Request) -> bool
+    ensures { λ r. ⌜ r ≡ readOnBlock block q ⌝ }
+{
+    if layout::on_block(block, q.offset.0) {
+        layout::on_block(block, q.length)
+    } else {
+        false
+    }
+}
+
+// The range ends within the data; no sum is made, so none wraps (checked_add).
+fn within(start: Position, length: u64, data: u64) -> bool
+    ensures { λ r. ⌜ r ≡ (ltb (start .0 + length) (2 ^ 64) && leb (start .0 + length) data) ⌝ }
+{
+    if data < start.0 {
+        return false;
+    }
+    length <= data - start.0
+}
+
+// Questions 12 to 14: is the length above 0, is it (and of a read the offset) a multiple of the block, is the range within the data?
+pub fn check(data: u64, on_block: bool, c: Context, q: Request) -> Asked
+    ensures { λ r. ⌜ r ≡ firstNo (lengthAbove0 c q ∷ aligned «on_block» c ∷ withinData data c q ∷ []) ⌝ }
+{
+    if q.length == 0 {
+        return Asked::No(Refusal::Empty(c));
+    }
+    if !on_block {
+        return Asked::No(Refusal::Misaligned(c));
+    }
+    ready::ask(within(q.offset, q.length, data), Refusal::OutOfBounds(c))
+}
