@@ -27,9 +27,6 @@ unfoldable pub openedNumber : Opened → Option ℕ
 openedNumber (No f) = some (number f)
 openedNumber (Table c) = none
 
-abbrev pub lentOf : List Row → List ℕ → List ℕ → List ℕ → List ℕ → List ℕ → Lent
-lentOf rows store free ready owners pool = record { rows = rows; store = store; free = free; ready = ready; owners = owners; pool = pool }
-
 pub record OpensTo (o : Opening) (plan : List ℕ) (l : Lent) (r : Opened) (rows : List Row) (store free ready owners : List ℕ) : Type 0 where
   pub reply : r ≡ pick (opens o plan (lengthsOf l)) (Table fresh) refused
   -- "No: 13."

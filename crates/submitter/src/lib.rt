@@ -1,7 +1,12 @@
-// The calls that a host makes (store-io's submitter/mod.rs). The opening stands here; submissions and answers follow it.
+// The calls that a host makes (store-io's submitter/mod.rs): the opening, and every call after it. Rows and counts are lent; what a call decides is
+// decided in admission, on values and words.
 ghost use mathlib.Core.Path.{_≡_};
-ghost use Rattle.submitter.specs.Open.{openedWith, lentOf, OpensTo};
+ghost use Rattle.admission.specs.Decided.{lentOf};
+ghost use Rattle.admission.specs.Touched.{CallsTo};
+ghost use Rattle.submitter.specs.Open.{openedWith, OpensTo};
 use completion::Refusal;
+use completion::Reply;
+use model::Call;
 use model::Counts;
 use model::Opening;
 use model::Row;
@@ -44,4 +49,27 @@ pub fn open(
     let depth = store::prepare(o, plan, rows.len(), store, free, ready, owners, pool.len());
     optable::new(rows, depth);
     reply(depth)
+}
+
+// One call (Submitter::write, read_page): the row on top of the free stack is found, what the call does to it is decided, and it is claimed, with
+// the counts, as decided; a call that is turned away claims the row as it was.
+pub fn call(
+    call: Call,
+    counts: &mut Counts,
+    rows: &mut [Row],
+    store: &mut [u64],
+    free: &mut [u64],
+    ready: &mut [u64],
+    owners: &mut [u64],
+    pool: &mut [u8],
+) -> Reply
+    ensures { λ r. ⌜ CallsTo call (now (counts .entry)) (lentOf (now (rows .entry)) (now (store .entry)) (now (free .entry)) (now (ready .entry)) (now (owners .entry)) (now (pool .entry))) r (now (counts .exit)) (lentOf (now (rows .exit)) (now (store .exit)) (now (free .exit)) (now (ready .exit)) (now (owners .exit)) (now (pool .exit))) ⌝ }
+{
+    let c = *counts;
+    let at = optable::top(free, c.live) as usize;
+    let row = optable::find(rows, at);
+    let t = admission::touch(call, row, c, rows.len(), store, free, ready, owners, pool);
+    optable::claim(rows, at, t.row);
+    optable::accept(counts, t.accepts);
+    t.reply
 }
