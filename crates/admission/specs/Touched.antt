@@ -36,7 +36,7 @@ pub record CallsTo (call : Call) (c : Counts) (l : Lent) (r : Reply) (c′ : Cou
   -- a call that is turned away changes nothing: no count, no row, no word, no byte
   pub turned-away : (f : Refusal) → r ≡ turnedAway f → (c′ ≡ c) × (l′ ≡ l)
   -- of every table that calls have left: the reply and the next state are the step's
-  pub as-step : Sound (stateIn c l) → step (stateIn c l) (lengthsOf l) call ≡ (stateIn c′ l′ , r)
+  pub as-step : Sound (stateIn c l) → step (stateIn c l) (lengthsOf l) call ≡ (stateIn c′ l′, r)
   pub beyond : Sound (stateIn c l) → Beyond (settingsIn (l .store)) l l′
 
 -- the row that a submission touches: the one on top of the free stack

@@ -23,7 +23,8 @@ use Rattle.optable.proofs.Opened.{none-opened}
 use Rattle.submitter.specs.declared.Opened.{Opened}
 use Rattle.submitter.specs.declared.Opened.the-variants.{Table}
 use Rattle.model.specs.Laws.{fresh}
-use Rattle.submitter.specs.Open.{refused, openedWith, openedNumber, lentOf, OpensTo}
+use Rattle.admission.specs.Decided.{lentOf}
+use Rattle.submitter.specs.Open.{refused, openedWith, openedNumber, OpensTo}
 
 -- a part of what is picked is picked of the parts
 pick-part : {A B : Type 0} (f : A → B) (t : Bool) (a b : A) → pick t (f a) (f b) ≡ f (pick t a b)

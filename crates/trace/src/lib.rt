@@ -1,0 +1,30 @@
+// The lines of a trace, read and written: each function is the definition of its name in specs/Trace.antt.
+mod read;
+mod write;
+
+pub use read::read_line;
+pub use write::bad_text;
+pub use write::reply_text;
+
+// What a field holds: whether it is a number, and which (0 where it is none).
+pub struct Field {
+    pub is: bool,
+    pub value: u64,
+}
+
+// The fields of `w` and `r`: "BUFFER POSITION LENGTH DURABLE TAG".
+pub struct Submission {
+    pub buffer: u64,
+    pub position: u64,
+    pub length: u64,
+    pub durable: bool,
+    pub tag: u64,
+}
+
+// What a line says.
+pub enum Line {
+    Comment,
+    Write(Submission),
+    Read(Submission),
+    Bad,
+}
