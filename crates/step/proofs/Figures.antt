@@ -25,4 +25,14 @@ unfolding figuresOpening figuresPlan figuresLengths figuresTable asking replyTo 
     among distinct idsRule runsOnBlock blocksRule mapRule regionRule eachRegion allExtents apartRule withinRule
     runsIn mapIn spanFrom runOf runEnd runLeft place pieceSize ascends spansFrom spans extent extents apart apartFrom allApart allWithin
     pick powerBelow isBlock onBlock
-figures = record { opens-them = refl; write-512 = refl; at-1536 = refl; one-piece = refl; too-long = refl; far-out = refl; read-256 = refl; write-256 = refl; empty = refl }
+figures = record {
+  opens-them = refl;
+  write-512 = refl;
+  at-1536 = refl;
+  one-piece = refl;
+  too-long = refl;
+  far-out = refl;
+  read-256 = refl;
+  write-256 = refl;
+  empty = refl;
+}
