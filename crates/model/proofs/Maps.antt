@@ -8,7 +8,7 @@ use Prim.Native.Nat.{ℕ, zero, suc, _-_, _+_, _≤_, _<_, _^_}
 use native.Mathlib.Nat.{not-suc-le-zero, le-of-suc-le-suc}
 use native.Mathlib.Decide.{decLt}
 use native.Mathlib.Omega.{arith}
-use borrow.Author.Tests.{leb-true}
+use borrow.Author.Tests.{leb-true, ltb-true}
 use lib.Dec.{leb, ltb}
 use lib.ListN.{length, getD, take, drop}
 use Rattle.layout.proofs.Tests.{and-left, and-right}
@@ -23,7 +23,7 @@ use Rattle.model.specs.Memory.{planIn, plansIn, opens}
 use Rattle.model.specs.Laws.{mapAt, OpenedMaps}
 use Rattle.model.proofs.Rules.{head-true, tail-true, numbers-hold, regions-hold}
 
-plans-length : (n : ℕ) (ws : List ℕ) → length (plansIn n ws) ≡ n
+pub plans-length : (n : ℕ) (ws : List ℕ) → length (plansIn n ws) ≡ n
 unfolding plansIn
 plans-length zero ws = refl
 plans-length (suc n) ws = ap suc (plans-length n (drop 70 ws))
@@ -33,8 +33,12 @@ unfolding runsIn
 runs-length zero ws = refl
 runs-length (suc n) ws = ap suc (runs-length n (drop 2 ws))
 
--- one region's rules make its map lawful, with few runs
+-- one region's rules make its map lawful, with few runs, and its generation small
 module _ (b : ℕ) (p : Plan) (e : regionRule b p ≡ true) where
+  small-of : p .generation < 2 ^ 32
+  unfolding regionRule
+  small-of = ltb-true _ _ (and-left (generationRule p) _ e)
+
   map-rules : mapRule b (p .map) ≡ true
   unfolding regionRule
   map-rules = and-right (generationRule p) _ e
@@ -117,6 +121,9 @@ module _ (o : Opening) (plan : List ℕ) (l : Lengths) (ok : opens o plan l ≡ 
 
   lawful : (h : ℕ) → h < o .regions → Lawful (mapAt o plan h)
   lawful h lt = lawful-of (o .block) (getD ps h none) (rule-at h lt)
+
+  pub small-generation : (h : ℕ) → h < o .regions → getD ps h none .generation < 2 ^ 32
+  small-generation h lt = small-of (o .block) (getD ps h none) (rule-at h lt)
 
   pub few-runs : (h : ℕ) → h < o .regions → length (mapAt o plan h .more) ≤ 32
   few-runs h lt = few-of (o .block) (getD ps h none) (rule-at h lt)

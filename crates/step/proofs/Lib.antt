@@ -1,1 +1,8 @@
 -- Proofs about the definitions of specs/.
+pub mod Counts
+pub mod Answers
+pub mod Taken
+pub mod Accepted
+pub mod Opened
+pub mod Laws
+pub mod Figures
