@@ -21,8 +21,10 @@ use Rattle.model.specs.declared.Asked.{Asked}
 use Rattle.model.specs.declared.Asked.the-variants.{Yes, No}
 use Rattle.model.specs.declared.Verdict.{Verdict}
 use Rattle.model.specs.declared.Verdict.the-variants.{No as refuses, Accept}
+use Rattle.model.specs.declared.Call.{Call}
+use Rattle.model.specs.declared.Call.the-variants.{Write, ReadPage}
 use Rattle.model.specs.State.{State}
-use Rattle.step.specs.Step.{Call, Call.write, Call.readPage, startOf, endOf, begun, pieceOf, verdictOf, writeVerdict, readVerdict, submitted, eqLengths, called, step}
+use Rattle.step.specs.Step.{startOf, endOf, begun, pieceOf, verdictOf, writeVerdict, readVerdict, submitted, eqLengths, called, step}
 use Rattle.step.specs.Sound.{rangeStart, rangeEnd, SplitFits, Sound}
 use Rattle.step.specs.Laws.{stepped, issuedUpTo, StepLaws}
 use Rattle.step.proofs.Answers.{Passed, write-passed, read-passed}
@@ -39,8 +41,8 @@ keeps-submitted s q k i Yes passes covers = keeps-accepted s i q (passes refl) k
 
 keeps-called : (s : State) (c : Call) → Sound s → Sound (called s c .0)
 unfolding called writeVerdict readVerdict rangeStart rangeEnd SplitFits
-keeps-called s (write q) i = keeps-submitted s q (Page (startOf q) (endOf q)) i _ (write-passed s q) (λ p. record { start = refl; end = refl; split = (refl, p .some) })
-keeps-called s (readPage q) i = keeps-submitted s q (Read (startOf q) (endOf q)) i _ (read-passed s q) (λ p. record { start = refl; end = refl; split = (refl, p .some) })
+keeps-called s (Write q) i = keeps-submitted s q (Page (startOf q) (endOf q)) i _ (write-passed s q) (λ p. record { start = refl; end = refl; split = (refl, p .some) })
+keeps-called s (ReadPage q) i = keeps-submitted s q (Read (startOf q) (endOf q)) i _ (read-passed s q) (λ p. record { start = refl; end = refl; split = (refl, p .some) })
 
 -- a step is the call, or nothing
 by-lengths : (b : Bool) {A : Type 0} (P : A → Type 0) (x y : A) → P x → P y → P (pick b x y)
@@ -64,8 +66,8 @@ submitted-away s q (Accept r k p) g e = let z : _≡_ {A = ℕ} 0 1 = cc in absu
 
 called-away : (s : State) (c : Call) → Unchanged s (called s c)
 unfolding called
-called-away s (write q) = submitted-away s q (writeVerdict s q)
-called-away s (readPage q) = submitted-away s q (readVerdict s q)
+called-away s (Write q) = submitted-away s q (writeVerdict s q)
+called-away s (ReadPage q) = submitted-away s q (readVerdict s q)
 
 turned-away : (s : State) (l : Lengths) (c : Call) → Unchanged s (step s l c)
 unfolding step
