@@ -4,5 +4,6 @@ pub mod Answers
 pub mod Taken
 pub mod Accepted
 pub mod Opened
+pub mod Memory
 pub mod Laws
 pub mod Figures
