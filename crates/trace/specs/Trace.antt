@@ -2,10 +2,11 @@
 -- "Fields are decimal digits (1 to 20 of them, no sign) separated by one space; lines end in LF". "A line that starts with `#` is passed over,
 -- however long. A line of another form .., a number over 2^64 − 1, or a line of more than 4,096 bytes prints `bad` and its number in the file,
 -- from 1, and changes nothing". "Flags are 0 or 1."
+use mathlib.Core.Path.{_≡_}
 use mathlib.Core.Bool.{Bool, true, false, _&&_}
 use mathlib.Core.List.{List, [], _∷_, _++_}
-use Prim.Native.Nat.{ℕ, zero, suc, _+_, _-_, _*_, _/_, _%_, _^_}
-use lib.ListN.{length, getD}
+use Prim.Native.Nat.{ℕ, zero, suc, _+_, _-_, _*_, _/_, _%_, _^_, min}
+use lib.ListN.{length, getD, take}
 use lib.Dec.{leb, ltb, eqb}
 use Rattle.layout.specs.Pick.{pick}
 use Rattle.completion.specs.declared.Reply.{Reply}
@@ -13,6 +14,7 @@ use Rattle.completion.specs.declared.Reply.the-variants.{Piece as piece, No as 
 use Rattle.completion.specs.Numbers.{number}
 use Rattle.trace.specs.declared.Field.{Field}
 use Rattle.trace.specs.declared.Submission.{Submission}
+use Rattle.trace.specs.declared.Reader.{Reader}
 use Rattle.trace.specs.declared.Line.{Line}
 use Rattle.trace.specs.declared.Line.the-variants.{Comment, Write, Read, Bad}
 
@@ -62,6 +64,16 @@ unfoldable pub lineIn : List ℕ → Line
 lineIn cs =
     pick (eqb (getD cs 0 0) 35) Comment
     (pick (isSubmission cs && eqb (getD cs 0 0) 119) (Write (submissionIn cs)) (pick (isSubmission cs && eqb (getD cs 0 0) 114) (Read (submissionIn cs)) Bad))
+
+-- "a line of more than 4,096 bytes prints `bad`", and one that starts with `#` is passed over, "however long"
+unfoldable pub lineRead : List ℕ → Line
+lineRead bytes = pick (leb (length bytes) 4096) (lineIn bytes) (pick (eqb (getD bytes 0 0) 35) Comment Bad)
+
+-- what a reader keeps of the bytes so far: the first 4,096, and whether there were more
+pub record Kept (r : Reader) (line bytes : List ℕ) : Type 0 where
+  pub count : r .kept ≡ min 4096 (length bytes)
+  pub longer : r .long ≡ ltb 4096 (length bytes)
+  pub same : take (r .kept) line ≡ take 4096 bytes
 
 -- ---- writing
 

@@ -1,7 +1,11 @@
 // The lines of a trace, read and written: each function is the definition of its name in specs/Trace.antt.
+mod lines;
 mod read;
 mod write;
 
+pub use lines::feed;
+pub use lines::finish;
+pub use lines::start;
 pub use read::read_line;
 pub use write::bad_text;
 pub use write::reply_text;
@@ -27,4 +31,10 @@ pub enum Line {
     Write(Submission),
     Read(Submission),
     Bad,
+}
+
+// How many bytes of a line are kept, and whether there were more.
+pub struct Reader {
+    pub kept: usize,
+    pub long: bool,
 }

@@ -1,0 +1,52 @@
+// A line as its bytes arrive, of whatever length: "a line of more than 4,096 bytes prints `bad`", but "A line that starts with `#` is passed over,
+// however long." The first 4,096 bytes are kept, and whether there are more.
+ghost use mathlib.Core.Path.{_≡_};
+ghost use mathlib.Core.List.{List, [], _∷_, _++_};
+ghost use Prim.Native.Nat.{ℕ};
+ghost use Rattle.trace.specs.Trace.{Kept, lineRead};
+use crate::Line;
+use crate::Reader;
+use crate::read_line;
+
+// Before the first byte.
+pub fn start() -> Reader
+    ensures { λ r. ⌜ ((line : List ℕ) → Kept r line []) ⌝ }
+{
+    Reader {
+        kept: 0,
+        long: false,
+    }
+}
+
+// One byte more.
+pub fn feed(r: Reader, line: &mut [u8; 4096], b: u8) -> Reader
+    ensures { λ r′. ⌜ ((bytes : List ℕ) → Kept r (now (line .entry)) bytes → Kept r′ (now (line .exit)) (bytes ++ (b ∷ []))) ⌝ }
+{
+    if 4096 <= r.kept {
+        return Reader {
+            kept: r.kept,
+            long: true,
+        };
+    }
+    line[r.kept] = b;
+    Reader {
+        kept: r.kept + 1,
+        long: r.long,
+    }
+}
+
+// What the line says, once all its bytes are there.
+pub fn finish(r: Reader, line: &[u8; 4096]) -> Line
+    ensures { λ l. ⌜ ((bytes : List ℕ) → Kept r (now (line .entry)) bytes → l ≡ lineRead bytes) ⌝ }
+{
+    if r.long {
+        if line[0] == 35 {
+            return Line::Comment;
+        }
+        return Line::Bad;
+    }
+    if 4096 < r.kept {
+        return Line::Bad;
+    }
+    read_line(&line[..r.kept])
+}
