@@ -1,1 +1,3 @@
--- Proofs about the functions of src/.
+-- Where a region's words stand, and that the state's regions are those in the words.
+pub mod Places
+pub mod Laws

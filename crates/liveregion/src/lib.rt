@@ -78,7 +78,7 @@ fn error_of(has: u64, word: u64) -> OsError
     if has == 0 {
         OsError::None
     } else {
-        OsError::Raw(word as u32)
+        OsError::Raw((word % 4294967296) as u32)
     }
 }
 

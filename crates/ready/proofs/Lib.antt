@@ -1,1 +1,2 @@
--- Proofs about the functions of src/.
+-- How the first no of a list is found, which the proofs of region use too.
+pub mod Groups

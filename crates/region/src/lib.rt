@@ -44,7 +44,7 @@ pub fn read_on_block(block: u64, q: Request) -> bool
 
 // The range ends within the data; no sum is made, so none wraps (checked_add).
 fn within(start: Position, length: u64, data: u64) -> bool
-    ensures { λ r. ⌜ r ≡ (ltb (start .0 + length) (2 ^ 64) && leb (start .0 + length) data) ⌝ }
+    ensures { λ r. ⌜ r ≡ (ltb (start .0 + length) (2 ^ 64) && leb (start .0 + length) «data») ⌝ }
 {
     if data < start.0 {
         return false;
@@ -54,7 +54,7 @@ fn within(start: Position, length: u64, data: u64) -> bool
 
 // Questions 12 to 14: is the length above 0, is it (and of a read the offset) a multiple of the block, is the range within the data?
 pub fn check(data: u64, on_block: bool, c: Context, q: Request) -> Asked
-    ensures { λ r. ⌜ r ≡ firstNo (lengthAbove0 c q ∷ aligned «on_block» c ∷ withinData data c q ∷ []) ⌝ }
+    ensures { λ r. ⌜ r ≡ firstNo (lengthAbove0 c q ∷ aligned «on_block» c ∷ withinData «data» c q ∷ []) ⌝ }
 {
     if q.length == 0 {
         return Asked::No(Refusal::Empty(c));
