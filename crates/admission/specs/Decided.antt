@@ -2,8 +2,8 @@
 use mathlib.Core.Path.{_≡_}
 use mathlib.Core.Bool.{Bool, true, false}
 use mathlib.Core.List.{List, map}
-use Prim.Native.Nat.{ℕ, _+_, _*_, _<_}
-use lib.ListN.{length, take, drop, set}
+use Prim.Native.Nat.{ℕ, _+_, _<_}
+use lib.ListN.{getD, take, set}
 use Rattle.regionmap.specs.declared.FoundPiece.{FoundPiece}
 use Rattle.regionmap.specs.declared.Position.{Position}
 use Rattle.regionmap.specs.Words.{HoldsMap, mapIn, pieceFound, positionOf, wrap64}
@@ -14,6 +14,8 @@ use Rattle.model.specs.declared.Lengths.{Lengths}
 use Rattle.model.specs.declared.Request.{Request}
 use Rattle.model.specs.declared.Row.{Row}
 use Rattle.model.specs.declared.Asked.{Asked}
+use Rattle.model.specs.declared.Asked.the-variants.{Yes, No}
+use Rattle.model.specs.declared.Kind.{Kind}
 use Rattle.model.specs.declared.Verdict.{Verdict}
 use Rattle.model.specs.declared.Verdict.the-variants.{No as refuses, Accept}
 use Rattle.model.specs.State.{State, Region}
@@ -50,6 +52,16 @@ FirstPiece store q r = InStore store (q .handle) → HoldsMap (mapWordsAt store 
 abbrev pub endWrapped : Request → Position
 endWrapped q = positionOf (wrap64 (q .offset .0 + q .length))
 
+-- the verdict of the questions' answer, with the row on top of the free stack and the first piece
+unfoldable pub verdictWith : Asked → ℕ → Kind → FoundPiece → Verdict
+verdictWith (No f) row k p = refuses f
+verdictWith Yes row k p = Accept row k p
+
+pub record DecidedBy (asked : Asked) (live : ℕ) (store free : List ℕ) (k : Kind) (q : Request) (v : Verdict) : Type 0 where
+  pub first : FoundPiece
+  pub found : asked ≡ Yes → FirstPiece store q first
+  pub verdict : v ≡ verdictWith asked (getD free live 0) k first
+
 -- 13 first; else, of every sound table whose parts lie in these words, what the definition says
 pub record Decides (verdict : State → Request → Verdict) (c : Counts) (l : Lengths) (store free owners : List ℕ) (q : Request) (v : Verdict) : Type 0 where
   pub another-length : sameLengths l store ≡ false → v ≡ refuses Unfit
@@ -66,6 +78,3 @@ issued (Accept r k p) row seq q =
 unfoldable pub ownersAfter : Verdict → Request → List ℕ → List ℕ
 ownersAfter (refuses f) q owners = owners
 ownersAfter (Accept r k p) q owners = set owners (q .buffer) 1
-
-abbrev pub lengthsWith : ℕ → List ℕ → List ℕ → List ℕ → List ℕ → List ℕ → Lengths
-lengthsWith rows store free ready owners pool = record { rows = rows; store = length store; free = length free; ready = length ready; owners = length owners; pool = length pool }

@@ -1,15 +1,16 @@
 // A submission is decided here: the questions in their order, the first piece, and what an accepted operation changes (store-io's submitter/mod.rs:
 // admit, write, read_page, read, first_piece, issue). The rows and the counts are touched in the submitter alone.
 ghost use mathlib.Core.Path.{_≡_};
+ghost use mathlib.Core.Bool.{_&&_};
 ghost use mathlib.Core.List.{[], _∷_, map};
 ghost use Prim.Native.Nat.{_≤_};
 ghost use lib.ListN.{length, getD, take, set};
-ghost use Rattle.regionmap.specs.Words.{positionOf, wrap64};
+ghost use lib.Dec.{leb, ltb};
 ghost use Rattle.model.specs.State.{Owner.lost};
-ghost use Rattle.model.specs.Memory.{settingsIn, ownerIn, lengthsOf};
+ghost use Rattle.model.specs.Memory.{settingsIn, ownerIn};
 ghost use Rattle.step.specs.Questions.{isHost, firstNo, bufferInPool, hostHoldsBuffer, roomInTable, lifetimeLeft, gateOpen, writeQuestions, readQuestions};
 ghost use Rattle.step.specs.Step.{writeVerdict, readVerdict};
-ghost use Rattle.admission.specs.Decided.{Questions, FirstPiece, Decides, issued, ownersAfter, endWrapped, lengthsWith};
+ghost use Rattle.admission.specs.Decided.{Questions, FirstPiece, DecidedBy, Decides, issued, ownersAfter, endWrapped};
 ghost use Rattle.admission.specs.Touched.{TouchesTo};
 use completion::Context;
 use completion::Refusal;
@@ -100,7 +101,8 @@ fn ask_write(counts: Counts, store: &[u64], owners: &[u64], q: Request) -> Asked
     let g = liveregion::region_at(store, q.handle);
     let c = ready::ctx(g.id);
     let owned = held(owners, store[4], q.buffer);
-    let admitted = admit(counts, store, owned, g.gate, c, q);
+    let gate = g.gate;
+    let admitted = admit(counts, store, owned, gate, c, q);
     let poison = liveregion::poisoned(store);
     let writable = ready::ready_for(store[6] != 0, poison, g.read_only, c);
     let named = region::names(store[8], g.id, g.generation, c, q);
@@ -120,8 +122,10 @@ fn ask_read(counts: Counts, store: &[u64], owners: &[u64], q: Request) -> Asked
     let c = ready::ctx(g.id);
     let owned = held(owners, store[4], q.buffer);
     let named = region::names(store[8], g.id, g.generation, c, q);
-    let admitted = admit(counts, store, owned, g.gate, c, q);
-    let ranged = ready::ctx_range(g.id, q.offset, q.length);
+    let gate = g.gate;
+    let admitted = admit(counts, store, owned, gate, c, q);
+    let start = q.offset;
+    let ranged = ready::ctx_range(g.id, start, q.length);
     let checked = region::check(g.data, region::read_on_block(store[0], q), ranged, q);
     ready::both(named, ready::both(admitted, checked))
 }
@@ -151,6 +155,27 @@ fn end_of(q: Request) -> Position
     Position(std::num::wrapping_add_u64(q.offset.0, q.length))
 }
 
+// The questions' answer and, where it is yes, what is accepted: the row on top of the free stack, and the first piece.
+fn decide(
+    asked: Asked,
+    live: u64,
+    store: &[u64],
+    free: &[u64],
+    kind: Kind,
+    q: Request,
+) -> Verdict
+    ensures { λ r. ⌜ DecidedBy asked live (now (store .entry)) (now (free .entry)) kind q r ⌝ }
+{
+    match asked {
+        Asked::No(refusal) => Verdict::No(refusal),
+        Asked::Yes => Verdict::Accept {
+            row: optable::top(free, live),
+            kind,
+            piece: first_piece(store, q),
+        },
+    }
+}
+
 // Whether a write is accepted, and as what (Submitter::write); 13 first.
 pub fn write(
     counts: Counts,
@@ -165,17 +190,13 @@ pub fn write(
     if !store::same_lengths(store, l) {
         return Verdict::No(Refusal::Unfit);
     }
-    match ask_write(counts, store, owners, q) {
-        Asked::No(refusal) => Verdict::No(refusal),
-        Asked::Yes => Verdict::Accept {
-            row: optable::top(free, counts.live),
-            kind: Kind::Page {
-                start: q.offset,
-                end: end_of(q),
-            },
-            piece: first_piece(store, q),
-        },
-    }
+    let asked = ask_write(counts, store, owners, q);
+    let start = q.offset;
+    let kind = Kind::Page {
+        start,
+        end: end_of(q),
+    };
+    decide(asked, counts.live, store, free, kind, q)
 }
 
 // Whether a read is accepted, and as what (Submitter::read_page and read); 13 first.
@@ -192,17 +213,13 @@ pub fn read_page(
     if !store::same_lengths(store, l) {
         return Verdict::No(Refusal::Unfit);
     }
-    match ask_read(counts, store, owners, q) {
-        Asked::No(refusal) => Verdict::No(refusal),
-        Asked::Yes => Verdict::Accept {
-            row: optable::top(free, counts.live),
-            kind: Kind::Read {
-                start: q.offset,
-                end: end_of(q),
-            },
-            piece: first_piece(store, q),
-        },
-    }
+    let asked = ask_read(counts, store, owners, q);
+    let start = q.offset;
+    let kind = Kind::Read {
+        start,
+        end: end_of(q),
+    };
+    decide(asked, counts.live, store, free, kind, q)
 }
 
 // The buffer goes to the table.
@@ -231,12 +248,13 @@ fn issue(v: Verdict, row: Row, seq: u64, owners: &mut [u64], q: Request) -> Touc
             piece,
         } => {
             lend(owners, q.buffer);
+            let offset = piece.offset;
             Touched {
                 row: optable::start(row.generation, seq, kind, q),
                 accepts: true,
                 reply: Reply::Piece {
                     qtag: optable::queue_tag(at, row.generation),
-                    offset: piece.offset,
+                    offset,
                     count: piece.count,
                     buffer: q.buffer,
                 },
