@@ -1,17 +1,16 @@
+-- `admission::end_of` meets its contract, by that of the wrapping sum.
+use mathlib.Core.Path.{ap}
 use borrow.Author.Needs.{needs}
+use Rattle.regionmap.specs.Words.{positionOf, wrap64}
 use Rattle.admission.proofs.end_of.Statement.{statement}
 use Rattle.admission.proofs.end_of.Tie as tie
-use Rattle.admission.proofs.end_of.Reads as reads
-use Rattle.admission.proofs.end_of.Lts as lts
-use Rattle.std.proofs.num.wrapping_add_u64.Reads as wrapping-add-u64-reads
 
--- src/lib.rt:151:14
 wrapping-add-u64-requires : tie.Need-wrapping-add-u64-requires
 wrapping-add-u64-requires c κs = search needs
 
--- src/lib.rt:148:1
 returns : tie.Need-returns
-returns c = ?
+unfolding wrap64
+returns c = ap positionOf (c .wrapping-add-u64 .ensures)
 
 pub end-of-spec : {M : Type 1} → statement M
 end-of-spec = tie.close (tie.spec wrapping-add-u64-requires returns)

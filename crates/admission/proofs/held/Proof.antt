@@ -1,28 +1,30 @@
+-- `admission::held` meets its contract: a word of the pool says who holds its buffer, and past the pool or the words nobody does.
+use native.Mathlib.Omega.{arith}
 use borrow.Author.Needs.{needs}
+use Rattle.admission.proofs.Holder.{held-within, held-past}
 use Rattle.admission.proofs.held.Statement.{statement}
 use Rattle.admission.proofs.held.Tie as tie
-use Rattle.admission.proofs.held.Reads as reads
-use Rattle.admission.proofs.held.Lts as lts
 
--- src/lib.rt:55:20
 mul-result : tie.Need-mul-result
 mul-result c = search needs
 
--- src/lib.rt:55:20
 shared-slice-read-result : tie.Need-shared-slice-read-result
 shared-slice-read-result c = search needs
 
--- src/lib.rt:55:13
 returns : tie.Need-returns
-returns c = ?
+returns c =
+    let a = c .before .before .before .args in
+    held-within (a .owners .now) (a .buffers) (a .buffer) (c .before .before .if1 .taken) (c .before .if2 .taken)
 
--- src/lib.rt:49:1
 returns-2 : tie.Need-returns-2
-returns-2 c = ?
+returns-2 c =
+    let a = c .before .before .args in
+    held-past (a .owners .now) (a .buffers) (a .buffer) (omega (arith, c .if2 .left))
 
--- src/lib.rt:49:1
 returns-3 : tie.Need-returns-3
-returns-3 c = ?
+returns-3 c =
+    let a = c .before .args in
+    held-past (a .owners .now) (a .buffers) (a .buffer) (omega (arith, c .if1 .left))
 
 pub held-spec : {M : Type 1} → statement M
 held-spec = tie.close (tie.spec mul-result shared-slice-read-result returns returns-2 returns-3)

@@ -1,15 +1,20 @@
+-- `admission::in_pool` meets its contract: the second test is made where the first holds.
+use mathlib.Core.Path.{sym, ap}
+use mathlib.Core.Bool.{Bool, _&&_}
+use lib.Dec.{leb}
+use borrow.Author.Tests.{lt-ltb, le-ltb}
 use Rattle.admission.proofs.in_pool.Statement.{statement}
 use Rattle.admission.proofs.in_pool.Tie as tie
-use Rattle.admission.proofs.in_pool.Reads as reads
-use Rattle.admission.proofs.in_pool.Lts as lts
 
--- src/lib.rt:39:1
 returns : tie.Need-returns
-returns c = ?
+returns c =
+    let a = c .before .before .before .args in
+    sym (ap (λ (t : Bool). t && leb (a .q .length) (a .capacity)) (lt-ltb (a .q .buffer) (a .buffers) (c .before .if1 .taken)))
 
--- src/lib.rt:39:1
 returns-2 : tie.Need-returns-2
-returns-2 c = ?
+returns-2 c =
+    let a = c .before .before .args in
+    sym (ap (λ (t : Bool). t && leb (a .q .length) (a .capacity)) (le-ltb (a .q .buffer) (a .buffers) (c .if1 .left)))
 
 pub in-pool-spec : {M : Type 1} → statement M
 in-pool-spec = tie.close (tie.spec returns returns-2)
