@@ -1,57 +1,56 @@
+-- `admission::first_piece` meets its contract, by that of `piece_at` on the region's words; where the contract asks, none is missing.
+use mathlib.Core.Path.{_≡_, ap, subst}
+use mathlib.Core.List.{List}
+use Prim.Native.Nat.{ℕ, _+_, _-_, _*_}
+use native.Mathlib.Omega.{arith}
+use lib.ListN.{take, drop}
+use Rattle.regionmap.specs.Words.{HoldsMap, mapIn, pieceFound}
 use borrow.Author.Needs.{needs}
 use Rattle.admission.proofs.first_piece.Statement.{statement}
 use Rattle.admission.proofs.first_piece.Tie as tie
-use Rattle.admission.proofs.first_piece.Reads as reads
-use Rattle.admission.proofs.first_piece.Lts as lts
-use Rattle.regionmap.proofs.piece_at.Reads as piece-at-reads
 
--- src/lib.rt:138:9
 returns : tie.Need-returns
-returns c = ?
+returns c = λ inside _. absurd (omega (arith, inside .below, c .if1 .taken))
 
--- src/lib.rt:140:19
 mul-at : tie.Need-mul-at
 mul-at c = search needs
 
--- src/lib.rt:140:14
 add-at : tie.Need-add-at
 add-at c = search needs
 
--- src/lib.rt:141:22
 add-if2 : tie.Need-add-if2
 add-if2 c = search needs
 
--- src/lib.rt:142:9
 returns-2 : tie.Need-returns-2
-returns-2 c = ?
+returns-2 c = λ inside _. absurd (omega (arith, inside .room, c .if2 .taken))
 
--- src/lib.rt:144:36
 add-piece-at : tie.Need-add-piece-at
 add-piece-at c = search needs
 
--- src/lib.rt:144:25
 mul-piece-at : tie.Need-mul-piece-at
 mul-piece-at c = search needs
 
--- src/lib.rt:144:25
 sub-piece-at : tie.Need-sub-piece-at
 sub-piece-at c = search needs
 
--- src/lib.rt:144:25
 part-piece-at-start : tie.Need-part-piece-at-start
 part-piece-at-start c = search needs
 
--- src/lib.rt:144:25
 part-piece-at-end : tie.Need-part-piece-at-end
 part-piece-at-end c = search needs
 
--- src/lib.rt:144:5
 piece-at-requires : tie.Need-piece-at-requires
 piece-at-requires c κs = search needs
 
--- src/lib.rt:130:1
+-- the part that is lent is the region's map
+lent-map : (l : List ℕ) (k : ℕ) → take (k + 68 - k) (drop k l) ≡ take 68 (drop k l)
+lent-map l k = ap (λ (n : ℕ). take n (drop k l)) (omega arith)
+
 returns-3 : tie.Need-returns-3
-returns-3 c = ?
+returns-3 c =
+    let a = c .before .before .before .before .before .before .args in
+    λ inside lies.
+    subst (λ (ws : List ℕ). HoldsMap ws → c .piece-at .result ≡ pieceFound (mapIn ws) (a .q .offset .0) (a .q .length)) (lent-map (a .store .now) (50 + 70 * a .q .handle)) (c .piece-at .ensures) lies
 
 pub first-piece-spec : {M : Type 1} → statement M
 first-piece-spec =
