@@ -8,7 +8,6 @@ use lib.Seq.{getD-take, getD-drop}
 use lib.Dec.{lit<}
 use Rattle.regionmap.specs.Words.{mapIn}
 use Rattle.model.specs.Memory.{flag, gateIn, planIn, regionIn}
-use Rattle.liveregion.specs.declared.LiveRegion.{LiveRegion}
 use Rattle.liveregion.specs.Live.{regionOf, liveOf}
 
 -- the i-th word of the part of n words from k on stands at place j, which is k + i

@@ -27,7 +27,8 @@ fn capped_end(start: Position, length: u64) -> Position
     if most - start.0 < length {
         Position(most)
     } else {
-        Position(start.0 + length)
+        let end = start.0 + length;
+        Position(end)
     }
 }
 

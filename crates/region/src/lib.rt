@@ -16,10 +16,10 @@ pub fn names(volume: u64, id: u64, generation: u64, c: Context, q: Request) -> A
     ensures { λ r. ⌜ r ≡ firstNo (volumeAndRegionMatch volume id c q ∷ generationMatches generation c q ∷ []) ⌝ }
 {
     if q.volume != volume {
-        return Asked::No(Refusal::ForeignPosition(c));
+        return Asked::No(Refusal::ForeignPosition(c)); // another volume
     }
     if q.region != id {
-        return Asked::No(Refusal::ForeignPosition(c));
+        return Asked::No(Refusal::ForeignPosition(c)); // another region
     }
     ready::ask(q.generation == generation, Refusal::StaleGeneration(c))
 }

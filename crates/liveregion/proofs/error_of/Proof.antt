@@ -1,6 +1,6 @@
 -- `liveregion::error_of` meets its contract: the lower 32 bits of a number below 2^32 are the number.
-use mathlib.Core.Path.{_≡_, ap}
-use mathlib.Core.Bool.{true, not}
+use mathlib.Core.Path.{ap}
+use mathlib.Core.Bool.{not}
 use native.Mathlib.Nat.{mod-eq-of-lt}
 use native.Mathlib.Omega.{arith}
 use borrow.Author.Tests.{ne-eqb}

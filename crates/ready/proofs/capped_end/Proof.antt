@@ -10,8 +10,8 @@ use Rattle.ready.proofs.capped_end.Tie as tie
 sub-if1 : tie.Need-sub-if1
 sub-if1 c = search needs
 
-add-t7 : tie.Need-add-t7
-add-t7 c = search needs
+add-end : tie.Need-add-end
+add-end c = search needs
 
 returns : tie.Need-returns
 returns c = sym (ap positionOf (min-eq-right (omega arith)))
@@ -20,4 +20,4 @@ returns-2 : tie.Need-returns-2
 returns-2 c = sym (ap positionOf (min-eq-left (omega arith)))
 
 pub capped-end-spec : {M : Type 1} → statement M
-capped-end-spec = tie.close (tie.spec sub-if1 add-t7 returns returns-2)
+capped-end-spec = tie.close (tie.spec sub-if1 add-end returns returns-2)

@@ -1,8 +1,6 @@
 -- `region::read_on_block` meets its contract: the definition's two tests, the second only where the first holds.
-use mathlib.Core.Path.{sym, ap, _∙_}
-use mathlib.Core.Bool.{Bool, _&&_}
+use mathlib.Core.Path.{sym, _∙_}
 use borrow.Author.Needs.{needs}
-use Rattle.layout.specs.Block.{onBlock}
 use Rattle.step.specs.Questions.{readOnBlock}
 use Rattle.region.proofs.read_on_block.Statement.{statement}
 use Rattle.region.proofs.read_on_block.Tie as tie
