@@ -27,7 +27,7 @@ module _ {M : Type 1} (𝓤 : URA M) (H : Heap 𝓤) (A : Atoms 𝓤) (mem : Mem
   FreedRow = tripleOf 𝓤 H A freed-row.signature (freed-row.spec 𝓤 H A mem run)
 
   -- what its triple binds outside
-  abbrev pub to-freed-row : FreedRow 𝓤 H A mem run .Ghost
+  abbrev pub to-freed-row : FreedRow .Ghost
   to-freed-row = ((tt, tt, tt, (0, tt), (vint w32 0 ∷ [], tt)), tt)
 
   abbrev Ensured : Row → SProp 𝓤
@@ -37,8 +37,8 @@ module _ {M : Type 1} (𝓤 : URA M) (H : Heap 𝓤) (A : Atoms 𝓤) (mem : Mem
   freed-row-of r = exE 𝓤 _ (λ ws. snd∗ 𝓤 (sem 𝓤 H A (lasts freed-row.ended tt (0, tt) ws)) (fact 𝓤 (r ≡ freed 0)))
 
   module _ (W : Given 𝓤 H A) where
-    pub goes-freed-row : ent 𝓤 (sem 𝓤 H A (u32 .own 0 (vint w32 0 ∷ []))) (FreedRow 𝓤 H A mem run .pre to-freed-row)
+    pub goes-freed-row : ent 𝓤 (sem 𝓤 H A (u32 .own 0 (vint w32 0 ∷ []))) (FreedRow .pre to-freed-row)
     goes-freed-row = qed W (‵ (u32 .own 0 (vint w32 0 ∷ [])) ∷ []) ∵ nothing ! $ move ! (1 ∷ 0 ∷ []) $ join ! $ nothing ! $ join ! $ frame ! $ done !
 
-    pub freed-row-comes : (v : Val) → ent 𝓤 (FreedRow 𝓤 H A mem run .post to-freed-row v) (H .⇛ (sem 𝓤 H A (R .own (freed 0) (v ∷ []))))
+    pub freed-row-comes : (v : Val) → ent 𝓤 (FreedRow .post to-freed-row v) (H .⇛ (sem 𝓤 H A (R .own (freed 0) (v ∷ []))))
     freed-row-comes v = comes 𝓤 H A W R (freed 0) Ensured freed-row-of (v ∷ [])
