@@ -132,7 +132,11 @@ pub fn accept(counts: &mut Counts, accepts: bool)
 pub fn find(rows: &[Row], at: usize) -> Row
     ensures { λ r. ⌜ r ≡ getD (now (rows .entry)) at (freed 0) ⌝ }
 {
-    if at < rows.len() { rows[at] } else { freed_row(0) }
+    if at < rows.len() {
+        rows[at]
+    } else {
+        freed_row(0)
+    }
 }
 
 // The row at a place is taken for an operation, as this row says; no row changes where there is none (Table::claim).

@@ -90,6 +90,9 @@ module _ {M : Type 1} (𝓤 : URA M) (H : Heap 𝓤) (A : Atoms 𝓤) (W : Given
         use2 W (‵ (MutSlice (named 0) κ R .own (rows-at κ b o γ zs) (s ∷ []))) (rows-own κ b o γ 𝓤 H A W (named 0) n zs same room) $
         nothing ! $ move ! (2 ∷ 0 ∷ []) $ join ! $ frame ! $ fjoin ! $ frame ! $ feqI ! (List Val) (vunit ∷ []) (vunit ∷ []) refl $ done !
 
+    far : T (ltb i n) → i * 112 < 2 ^ 64
+    far less = offset-fits n i room (ltb→lt i n less)
+
     module _ (C : Calls 𝓤 H) (Λ : Loops 𝓤 H) where
       module _ (l₀ l₁ l₂ l₃ l₄ l₅ l₆ l₇ : ℕ) where
         abbrev E : Env 𝓤 H
@@ -109,7 +112,6 @@ module _ {M : Type 1} (𝓤 : URA M) (H : Heap 𝓤) (A : Atoms 𝓤) (W : Given
 
       walk : i < 2 ^ 64 → Is R y (v ∷ []) → ent 𝓤 (onEntry 𝓤 H A self.signature (κ, tt) (q, tt) a at) (WpFn 𝓤 H C Λ code.function (s ∷ vint w64 i ∷ v ∷ []) Post)
       walk i-fits is =
-          let far : T (ltb i n) → i * 112 < 2 ^ 64 = λ less. offset-fits n i room (ltb→lt i n less) in
           qed W ((‵ (flft κ q) ⊛ ‵ ftrue) ∷ ‵ (owns (MutSlice (named 0) κ R ∷ usize ∷ R ∷ []) a at) ∷ []) ∵ enter ! C Λ code.function (s ∷ vint w64 i ∷ v ∷ []) _ $
           alloc1 ! (λ l₀. alloc1 ! (λ l₁. alloc1 ! (λ l₂. alloc1 ! (λ l₃. alloc1 ! (λ l₄. alloc1 ! (λ l₅. alloc1 ! (λ l₆. alloc1 ! (λ l₇. alloc0 ! $ params1 ! $
           pass1 ! (init ! 12 refl (tt, (tt, (record { fits = room .0 }, tt)))) $ pass1 ! (init ! 10 refl (tt, record { fits = i-fits })) $ pass1 ! (init ! 8 refl (typed 𝓤 H A W y v is)) $ pass0 ! $
