@@ -133,9 +133,10 @@ pub fn find(rows: &[Row], at: usize) -> Row
     ensures { λ r. ⌜ r ≡ getD (now (rows .entry)) at (freed 0) ⌝ }
 {
     if at < rows.len() {
-        return rows[at];
+        rows[at]
+    } else {
+        freed_row(0)
     }
-    freed_row(0)
 }
 
 // The row at a place is taken for an operation, as this row says; no row changes where there is none (Table::claim).
