@@ -121,3 +121,29 @@ pub fn accepted(c: Counts, accepts: bool) -> Counts
     }
 }
 
+// The counts, lent on and updated (live and next_seq of Table::start).
+pub fn accept(counts: &mut Counts, accepts: bool)
+    ensures { λ _. ⌜ now (counts .exit) ≡ acceptedIf accepts (now (counts .entry)) ⌝ }
+{
+    *counts = accepted(*counts, accepts);
+}
+
+// The row at a place; one that awaits nothing where there is none.
+pub fn find(rows: &[Row], at: usize) -> Row
+    ensures { λ r. ⌜ r ≡ getD (now (rows .entry)) at (freed 0) ⌝ }
+{
+    if at < rows.len() {
+        rows[at]
+    } else {
+        freed_row(0)
+    }
+}
+
+// The row at a place is taken for an operation, as this row says; no row changes where there is none (Table::claim).
+pub fn claim(rows: &mut [Row], at: usize, row: Row)
+    ensures { λ _. ⌜ now (rows .exit) ≡ set (now (rows .entry)) at row ⌝ }
+{
+    if at < rows.len() {
+        rows[at] = row;
+    }
+}
