@@ -44,7 +44,7 @@ piece-at-requires c κs = search needs
 
 -- the part that is lent is the region's map
 lent-map : (l : List ℕ) (k : ℕ) → take (k + 68 - k) (drop k l) ≡ take 68 (drop k l)
-lent-map l k = ap (λ (n : ℕ). take n (drop k l)) (omega arith)
+lent-map l k = ap (λ (n : ℕ). take n (drop k l)) (let e : k + 68 - k ≡ 68 = omega arith in e)
 
 returns-3 : tie.Need-returns-3
 returns-3 c =

@@ -1,3 +1,7 @@
+-- `admission::issue` meets its contract: each arm knows the verdict, and there the definitions compute.
+use mathlib.Core.Path.{sym, ap, _∙_}
+use Rattle.model.specs.declared.Verdict.{Verdict}
+use Rattle.admission.specs.Decided.{issued, ownersAfter}
 use borrow.Author.Needs.{needs}
 use Rattle.admission.proofs.issue.Statement.{statement}
 use Rattle.admission.proofs.issue.Tie as tie
@@ -18,13 +22,20 @@ queue-tag-requires : tie.Need-queue-tag-requires
 queue-tag-requires c κs = search needs
 
 returns : tie.Need-returns
-returns c = ?
+unfolding issued ownersAfter
+returns c =
+    let a = c .before .before .before .before .args in
+    let is = c .before .v .given .1 in
+    (sym (ap (λ (v : Verdict). issued v (a .row) (a .seq) (a .q)) is), sym (ap (λ (v : Verdict). ownersAfter v (a .q) (a .owners .now)) is))
 
 same-length : tie.Need-same-length
 same-length c = search needs
 
 returns-2 : tie.Need-returns-2
-returns-2 c = ?
+unfolding issued ownersAfter
+returns-2 c =
+    let a = c .before .before .before .before .before .before .before .before .before .before .before .args in
+    ?
 
 pub issue-spec : {M : Type 1} → statement M
 issue-spec =
