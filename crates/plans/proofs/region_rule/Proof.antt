@@ -1,0 +1,51 @@
+-- `plans::region_rule` meets its contract: the map's words are all behind the first two.
+use mathlib.Core.Path.{_≡_, ap, _∙_}
+use mathlib.Core.Bool.{Bool, _&&_}
+use mathlib.Core.List.{List}
+use Prim.Native.Nat.{ℕ, _^_}
+use borrow.Author.Needs.{needs}
+use lib.ListN.{getD}
+use lib.Dec.{ltb}
+use Rattle.regionmap.specs.Words.{mapIn}
+use Rattle.model.specs.Opening.{mapRule, regionRule}
+use Rattle.model.specs.Memory.{planIn}
+use Rattle.plans.proofs.Steps.{to-the-end}
+use Rattle.plans.proofs.region_rule.Statement.{statement}
+use Rattle.plans.proofs.region_rule.Tie as tie
+
+shared-slice-read-generation : tie.Need-shared-slice-read-generation
+shared-slice-read-generation c = search needs
+
+sub-map-rule : tie.Need-sub-map-rule
+sub-map-rule c = search needs
+
+part-map-rule-start : tie.Need-part-map-rule-start
+part-map-rule-start c = search needs
+
+part-map-rule-end : tie.Need-part-map-rule-end
+part-map-rule-end c = search needs
+
+map-rule-requires : tie.Need-map-rule-requires
+map-rule-requires c κs = search needs
+
+both-requires : tie.Need-both-requires
+both-requires c κs = search needs
+
+returns : tie.Need-returns
+unfolding regionRule planIn
+returns c =
+    let a = c .before .before .before .before .before .args in
+    let whole = ap (λ (ws : List ℕ). mapRule (a .block) (mapIn ws)) (to-the-end 2 (a .region .now)) in
+    cc whole
+
+pub region-rule-spec : {M : Type 1} → statement M
+region-rule-spec =
+    tie.close
+    (tie.spec
+    shared-slice-read-generation
+    sub-map-rule
+    part-map-rule-start
+    part-map-rule-end
+    map-rule-requires
+    both-requires
+    returns)
