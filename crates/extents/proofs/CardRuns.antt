@@ -29,9 +29,9 @@ noBytes = record { offset = 0; size = 0 }
 -- ---- a test that goes through a row
 
 -- `all` tests a row, and `one` its first with those behind it: a walk over the row
-through : {all : List Extent → Bool} {one : Extent → List Extent → Bool} → all [] ≡ true → ((e : Extent) (es : List Extent) → all (e ∷ es) ≡ (one e es && all es)) → (xs : List Extent)
+through : (all : List Extent → Bool) (one : Extent → List Extent → Bool) → all [] ≡ true → ((e : Extent) (es : List Extent) → all (e ∷ es) ≡ (one e es && all es)) → (xs : List Extent)
     → Walk (length xs) (λ k. one (getD xs k noBytes) (drop (k + 1) xs)) (λ k. all (drop k xs))
-through {all} none more xs = record { step = step; end = λ k l. ap all (drop-of-length-le xs l) ∙ none }
+through all one none more xs = record { step = step; end = λ k l. ap all (drop-of-length-le xs l) ∙ none }
   where
     step : (k : ℕ) → k < length xs → all (drop k xs) ≡ (one (getD xs k noBytes) (drop (k + 1) xs) && all (drop (k + 1) xs))
     step k l =
@@ -44,15 +44,15 @@ endsBy offset e = leb (e .offset + e .size) offset
 
 pub within : (card : ℕ) (xs : List Extent) → Walk (length xs) (λ k. endsBy card (getD xs k noBytes)) (λ k. allWithin card (drop k xs))
 unfolding allWithin
-within card = through {all = allWithin card} {one = λ e es. endsBy card e} refl (λ e es. refl)
+within card = through (allWithin card) (λ e es. endsBy card e) refl (λ e es. refl)
 
 pub apart-from : (x : Extent) (xs : List Extent) → Walk (length xs) (λ k. apart x (getD xs k noBytes)) (λ k. apartFrom x (drop k xs))
 unfolding apartFrom
-apart-from x = through {all = apartFrom x} {one = λ e es. apart x e} refl (λ e es. refl)
+apart-from x = through (apartFrom x) (λ e es. apart x e) refl (λ e es. refl)
 
 pub all-apart : (xs : List Extent) → Walk (length xs) (λ k. apartFrom (getD xs k noBytes) (drop (k + 1) xs)) (λ k. allApart (drop k xs))
 unfolding allApart
-all-apart = through {all = allApart} {one = apartFrom} refl (λ e es. refl)
+all-apart = through allApart apartFrom refl (λ e es. refl)
 
 -- ---- the row of a plan
 
