@@ -114,7 +114,7 @@ unfolding withinRule apartRule
 returns-4 c =
     let a = c .before .before .before .before .before .before .before .before .before .before .before .before .before .args in
     let all = behind-each (a .o) (a .plan .now) (a .l) (numbers-true (c .before .before .before .before .before .before .before .before .before .before)) (lengths-true (c .before .before .before .before .before .before .before .before)) (each-true (c .before .before .before .before .before .before)) in
-    cc all
+    rw (c .both3 .ensures, c .before .ids-rule .ensures, c .before .before .both2 .ensures, c .before .before .before .before .before .within-rule .ensures, c .before .before .before .both .ensures, c .before .before .before .before .apart-rule .ensures) (sym all)
 
 pub admits-spec : {M : Type 1} → statement M
 admits-spec =

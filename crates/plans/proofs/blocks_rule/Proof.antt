@@ -37,7 +37,7 @@ both-requires-3 c κs = search needs
 
 returns : tie.Need-returns
 unfolding blocksRule mapIn
-returns c = cc (c .before .before .before .before .before .before .before .before .before .before .before .pre .1 .1)
+returns c = rw (c .both3 .ensures, c .before .before .before .before .before .before .before .before .on-block .ensures, c .before .both2 .ensures, c .before .before .before .before .before .before .on-block2 .ensures, c .before .before .both .ensures, c .before .before .before .before .on-block3 .ensures, c .before .before .before .runs-on-block .ensures, c .before .before .before .before .before .before .before .before .before .before .before .pre .1 .1)
 
 pub blocks-rule-spec : {M : Type 1} → statement M
 blocks-rule-spec =

@@ -61,7 +61,7 @@ returns-2 : tie.Need-returns-2
 returns-2 c =
     let a = c .before .before .before .before .before .before .before .before .before .before .before .before .args in
     let few = by-count (a .block) (a .map .now) ∙ ap (λ (t : Bool). t && others (a .block) (a .map .now)) (le-leb _ _ (c .before .before .before .before .before .before .before .before .before .if1 .left)) in
-    cc few
+    rw (c .both4 .ensures, c .before .both3 .ensures, c .before .before .before .before .before .both .ensures, c .before .before .both2 .ensures, c .before .before .before .before .starts-rise .ensures, c .before .before .before .blocks-rule .ensures) (sym few)
 
 pub map-rule-spec : {M : Type 1} → statement M
 map-rule-spec =

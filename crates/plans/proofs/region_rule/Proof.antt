@@ -33,10 +33,7 @@ both-requires c κs = search needs
 
 returns : tie.Need-returns
 unfolding regionRule planIn
-returns c =
-    let a = c .before .before .before .before .before .args in
-    let whole = ap (λ (ws : List ℕ). mapRule (a .block) (mapIn ws)) (to-the-end 2 (a .region .now)) in
-    cc whole
+returns c = rw (c .both .ensures, c .before .map-rule .ensures, to-the-end 2 (c .before .before .before .before .before .args .region .now))
 
 pub region-rule-spec : {M : Type 1} → statement M
 region-rule-spec =

@@ -37,7 +37,7 @@ both-requires : tie.Need-both-requires
 both-requires c κs = search needs
 
 returns : tie.Need-returns
-returns c = cc
+returns c = rw (c .both .ensures, c .before .before .on-block .ensures, c .before .on-block2 .ensures)
 
 pub run-on-block-spec : {M : Type 1} → statement M
 run-on-block-spec =

@@ -62,7 +62,7 @@ returns-2 c =
     let a = c .before .before .before .before .before .before .before .before .before .before .before .before .before .before .before .before .before .before .before .args in
     let enough : sameLengths (a .l) (a .store .now) ≡ others (a .l) (a .store .now) =
     ap (λ (t : Bool). t && others (a .l) (a .store .now)) (le-leb 48 (length (a .store .now)) (c .before .before .before .before .before .before .before .before .before .before .before .before .before .before .before .before .before .if1 .left)) in
-    cc enough
+    rw (c .both5 .ensures, c .before .before .before .both4 .ensures, c .before .before .before .before .before .before .both3 .ensures, c .before .before .before .before .before .before .before .before .before .both2 .ensures, c .before .before .before .before .before .before .before .before .before .before .before .before .both .ensures) (sym enough)
 
 pub same-lengths-spec : {M : Type 1} → statement M
 same-lengths-spec =

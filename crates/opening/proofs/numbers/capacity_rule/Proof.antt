@@ -13,7 +13,7 @@ both-requires : tie.Need-both-requires
 both-requires c κs = search needs
 
 returns : tie.Need-returns
-returns c = cc
+returns c = rw (c .both .ensures, c .before .before .from-to .ensures, c .before .on-block .ensures)
 
 pub capacity-rule-spec : {M : Type 1} → statement M
 capacity-rule-spec = tie.close (tie.spec from-to-requires on-block-requires both-requires returns)

@@ -44,7 +44,7 @@ both-requires-7 c κs = search needs
 
 returns : tie.Need-returns
 unfolding allTrue lengthRules
-returns c = cc
+returns c = rw (c .both7 .ensures, c .before .both6 .ensures, c .before .before .before .before .both4 .ensures, c .before .before .before .before .before .before .before .both3 .ensures, c .before .before .before .before .before .before .before .before .both2 .ensures, c .before .before .before .before .before .before .before .before .before .before .before .before .both .ensures, c .before .before .both5 .ensures)
 
 pub lengths-spec : {M : Type 1} → statement M
 lengths-spec =
