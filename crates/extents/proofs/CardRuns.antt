@@ -20,7 +20,8 @@ use Rattle.model.specs.Opening.{generationRule, runsRule, regionRule, mapRule, 
 use Rattle.model.proofs.Maps.{runs-length}
 use Rattle.model.specs.Memory.{planIn, plansIn}
 use Rattle.plans.proofs.Walk.{Walk}
-use Rattle.plans.proofs.Steps.{runWords, runsFrom, one-left, none-left, runs-step, runs-end, runs-all}
+use Rattle.plans.proofs.Steps.{runWords, runsFrom, runs-step, runs-end, runs-all, regionWords, plans-step, plans-end, plans-all}
+use Rattle.plans.specs.Plans.{plansFrom}
 
 -- what stands past the row's end
 abbrev pub noBytes : Extent
@@ -58,31 +59,25 @@ all-apart = through allApart apartFrom refl (λ e es. refl)
 
 -- the words of the h-th region's map
 abbrev pub mapWords : List ℕ → ℕ → List ℕ
-mapWords ws h = drop 2 (take 70 (drop (70 * h) ws))
+mapWords ws h = drop 2 (regionWords ws h)
 
 -- the runs of a plan of n regions, and those from the h-th region on
 abbrev pub row : List ℕ → ℕ → List Extent
 row ws n = allExtents (plansIn n ws)
 
 abbrev pub rowFrom : List ℕ → ℕ → ℕ → List Extent
-rowFrom ws n h = allExtents (plansIn (n - h) (drop (70 * h) ws))
+rowFrom ws n h = allExtents (plansFrom ws n h)
 
 pub row-step : (ws : List ℕ) (n h : ℕ) → h < n → rowFrom ws n h ≡ extents (mapIn (mapWords ws h)) ++ rowFrom ws n (h + 1)
-unfolding plansIn planIn allExtents
-row-step ws n h l =
-    let next : 70 * h + 70 ≡ 70 * (h + 1) = omega arith in
-    let behind : drop 70 (drop (70 * h) ws) ≡ drop (70 * (h + 1)) ws = drop-drop 70 (70 * h) ws ∙ ap (λ (k : ℕ). drop k ws) next in
-    ap (λ (k : ℕ). allExtents (plansIn k (drop (70 * h) ws))) (one-left n h l)
-    ∙ ap (λ (v : List ℕ). extents (mapIn (mapWords ws h)) ++ allExtents (plansIn (n - (h + 1)) v)) behind
+unfolding planIn allExtents
+row-step ws n h l = ap allExtents (plans-step ws n h l)
 
 pub row-end : (ws : List ℕ) (n h : ℕ) → n ≤ h → rowFrom ws n h ≡ []
-unfolding plansIn allExtents
-row-end ws n h l = ap (λ (k : ℕ). allExtents (plansIn k (drop (70 * h) ws))) (none-left n h l)
+unfolding allExtents
+row-end ws n h l = ap allExtents (plans-end ws n h l)
 
 pub row-all : (ws : List ℕ) (n : ℕ) → rowFrom ws n 0 ≡ row ws n
-row-all ws n =
-    let all : n - 0 ≡ n = omega arith in
-    ap (λ (k : ℕ). allExtents (plansIn k ws)) all
+row-all ws n = ap allExtents (plans-all ws n)
 
 -- ---- the runs of a map
 

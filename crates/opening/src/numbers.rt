@@ -1,7 +1,6 @@
 // The opening's rules on numbers and lengths: each function is the definition of its name in the model's Opening.
 ghost use mathlib.Core.Path.{_≡_};
-ghost use mathlib.Core.Bool.{_&&_};
-ghost use Rattle.model.specs.Opening.{between, allTrue, numberRules, lengthRules, depthRule, blockRule, buffersRule, capacityRule, lifetimeRule, regionsRule, cardRule};
+ghost use Rattle.model.specs.Opening.{between, allTrue, numberRules, lengthRules, capacityRule};
 ghost use Prim.Native.Nat.{_*_, _≤_};
 ghost use lib.Dec.{leb};
 use layout::both;

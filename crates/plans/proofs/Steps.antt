@@ -1,13 +1,12 @@
 -- What lies in words, taken apart at its j-th: the first of those that are left, and the others. By the definitions' clauses at n − j.
-use mathlib.Core.Path.{_≡_, refl, sym, ap, ap₂, _∙_}
+use mathlib.Core.Path.{_≡_, ap, ap₂, _∙_}
 use mathlib.Core.List.{List, [], _∷_}
-use Prim.Native.Nat.{ℕ, zero, suc, _+_, _-_, _*_, _≤_, _<_}
+use Prim.Native.Nat.{ℕ, suc, _+_, _-_, _*_, _≤_, _<_}
 use native.Mathlib.Omega.{arith}
 use lib.Dec.{lit<}
 use lib.ListN.{length, getD, drop, take, length-drop}
 use lib.Seq.{getD-drop, getD-take, drop-drop, take-all}
 use Rattle.regionmap.specs.Map.{Run}
-use Rattle.model.specs.Opening.{Plan}
 use Rattle.model.specs.Memory.{planIn, plansIn}
 use Rattle.plans.specs.Plans.{plansFrom}
 use Rattle.regionmap.specs.Words.{runsIn}

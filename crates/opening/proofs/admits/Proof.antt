@@ -4,13 +4,12 @@ use mathlib.Core.Bool.{Bool, true, _&&_}
 use mathlib.Core.List.{List}
 use Prim.Native.Nat.{ℕ, _+_, _*_, _≤_, _<_}
 use borrow.Author.Needs.{needs}
-use borrow.Author.Tests.{not-true, not-false, leb-true}
+use borrow.Author.Tests.{not-true, not-false}
 use lib.ListN.{length, getD}
 use Rattle.model.specs.declared.Opening.{Opening}
 use Rattle.model.specs.declared.Lengths.{Lengths}
 use Rattle.model.specs.Opening.{allTrue, numberRules, lengthRules, regionRules, eachRegion, idsRule, withinRule, apartRule, admits}
 use Rattle.model.specs.Memory.{plansIn, listed, opens}
-use Rattle.model.specs.Meaning.{Numbers}
 use Rattle.model.proofs.Rules.{numbers-mean, listed-mean}
 use Rattle.extents.proofs.CardRuns.{few-runs}
 use Rattle.opening.proofs.admits.Statement.{statement}

@@ -1,13 +1,12 @@
 -- `plans::each_region` meets its contract. The loop's invariant: whether the regions left keep the rules is whether all do.
 use mathlib.Core.Path.{_≡_, sym, ap, _∙_}
-use mathlib.Core.Bool.{Bool, _&&_}
 use mathlib.Core.List.{List}
 use Prim.Native.Nat.{ℕ, _+_, _-_, _*_, _≤_}
 use native.Mathlib.Omega.{arith}
 use borrow.Author.Needs.{needs}
 use borrow.Author.Tests.{not-true, not-false}
-use lib.ListN.{length, take, drop, length-take, length-drop}
-use Rattle.model.specs.Opening.{Plan, regionRule, eachRegion}
+use lib.ListN.{take, drop, length-take, length-drop}
+use Rattle.model.specs.Opening.{regionRule, eachRegion}
 use Rattle.model.specs.Memory.{planIn, plansIn}
 use Rattle.plans.specs.Plans.{plansFrom}
 use Rattle.plans.proofs.Walk.{Walk, stops, goes, ends}

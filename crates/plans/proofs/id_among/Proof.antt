@@ -3,13 +3,12 @@ use mathlib.Core.Path.{_≡_, refl, sym, ap, _∙_}
 use mathlib.Core.Bool.{Bool, false, _||_}
 use mathlib.Core.List.{List, map}
 use Prim.Native.Nat.{ℕ, _+_, _-_, _*_, _≤_, _<_}
-use native.Mathlib.Omega.{arith}
 use borrow.Author.Needs.{needs}
 use borrow.Author.Tests.{eq-eqb, ne-eqb}
 use lib.ListN.{getD}
 use lib.Dec.{eqb}
 use Rattle.model.specs.Opening.{Plan, among}
-use Rattle.plans.specs.Plans.{plansFrom, idsFrom}
+use Rattle.plans.specs.Plans.{idsFrom}
 use Rattle.plans.proofs.Steps.{plans-step, plans-end, id-word}
 use Rattle.plans.proofs.id_among.Statement.{statement}
 use Rattle.plans.proofs.id_among.Tie as tie

@@ -1,12 +1,11 @@
 -- `plans::ids_rule` meets its contract. The loop's invariant: whether the ids left are distinct is whether all are.
 use mathlib.Core.Path.{_≡_, sym, ap, _∙_}
 use mathlib.Core.Bool.{Bool, not, _&&_}
-use mathlib.Core.List.{List, map}
+use mathlib.Core.List.{List}
 use Prim.Native.Nat.{ℕ, _+_, _-_, _*_, _≤_}
-use native.Mathlib.Omega.{arith}
 use borrow.Author.Needs.{needs}
 use lib.ListN.{getD}
-use Rattle.model.specs.Opening.{Plan, among, distinct, idsRule}
+use Rattle.model.specs.Opening.{among, distinct, idsRule}
 use Rattle.model.specs.Memory.{plansIn}
 use Rattle.plans.specs.Plans.{plansFrom, idsFrom}
 use Rattle.plans.proofs.Walk.{Walk, stops, goes, ends}

@@ -1,11 +1,11 @@
 -- `plans::map_rule` meets its contract: with more than 32 further runs the first rule fails, else each test is the definition's.
 use mathlib.Core.Path.{_≡_, sym, ap, _∙_}
-use mathlib.Core.Bool.{Bool, true, false, _&&_}
+use mathlib.Core.Bool.{Bool, _&&_}
 use mathlib.Core.List.{List}
-use Prim.Native.Nat.{ℕ, _≤_, _<_}
+use Prim.Native.Nat.{ℕ}
 use borrow.Author.Needs.{needs}
 use borrow.Author.Tests.{le-leb, lt-leb}
-use lib.ListN.{length, getD, drop}
+use lib.ListN.{getD, drop}
 use lib.Dec.{leb, ltb}
 use Rattle.regionmap.specs.Map.{ascends}
 use Rattle.regionmap.specs.Words.{runsIn, mapIn}

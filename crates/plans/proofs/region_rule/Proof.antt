@@ -1,13 +1,6 @@
 -- `plans::region_rule` meets its contract: the map's words are all behind the first two.
-use mathlib.Core.Path.{_≡_, ap, _∙_}
-use mathlib.Core.Bool.{Bool, _&&_}
-use mathlib.Core.List.{List}
-use Prim.Native.Nat.{ℕ, _^_}
 use borrow.Author.Needs.{needs}
-use lib.ListN.{getD}
-use lib.Dec.{ltb}
-use Rattle.regionmap.specs.Words.{mapIn}
-use Rattle.model.specs.Opening.{mapRule, regionRule}
+use Rattle.model.specs.Opening.{regionRule}
 use Rattle.model.specs.Memory.{planIn}
 use Rattle.plans.proofs.Steps.{to-the-end}
 use Rattle.plans.proofs.region_rule.Statement.{statement}

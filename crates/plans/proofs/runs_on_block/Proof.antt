@@ -2,13 +2,11 @@
 use mathlib.Core.Path.{_≡_, sym, ap, _∙_}
 use mathlib.Core.Bool.{Bool, _&&_, and-assoc}
 use mathlib.Core.List.{List}
-use Prim.Native.Nat.{ℕ, _+_, _-_, _*_, _≤_, _<_}
-use native.Mathlib.Omega.{arith}
+use Prim.Native.Nat.{ℕ, _+_, _-_, _*_, _≤_}
 use borrow.Author.Needs.{needs}
 use borrow.Author.Tests.{not-true, not-false}
 use lib.ListN.{getD, drop}
 use Rattle.layout.specs.Block.{onBlock}
-use Rattle.regionmap.specs.Map.{Run}
 use Rattle.regionmap.specs.Words.{runsIn}
 use Rattle.model.specs.Opening.{runsOnBlock}
 use Rattle.plans.proofs.Walk.{Walk, stops, goes, ends}

@@ -1,16 +1,15 @@
 -- `plans::starts_rise` meets its contract. The loop's invariant: whether the runs left ascend from `lo` is whether all do from 0.
-use mathlib.Core.Path.{_≡_, refl, sym, ap, ap₂, _∙_}
+use mathlib.Core.Path.{_≡_, sym, ap, _∙_}
 use mathlib.Core.Bool.{Bool, true, _&&_}
-use mathlib.Core.List.{List, _∷_}
+use mathlib.Core.List.{List}
 use Prim.Native.Nat.{ℕ, _+_, _-_, _*_, _≤_, _<_}
 use native.Mathlib.Omega.{arith}
-use borrow.Author.Needs.{needs}
 use borrow.Author.Tests.{lt-ltb, le-ltb}
 use lib.ListN.{getD, drop}
 use lib.Dec.{ltb}
 use Rattle.regionmap.specs.Map.{Run, ascends}
 use Rattle.regionmap.specs.Words.{runsIn}
-use Rattle.plans.proofs.Steps.{runWords, runsFrom, runs-step, runs-end, runs-all}
+use Rattle.plans.proofs.Steps.{runsFrom, runs-step, runs-end, runs-all}
 use Rattle.plans.proofs.starts_rise.Statement.{statement}
 use Rattle.plans.proofs.starts_rise.Tie as tie
 

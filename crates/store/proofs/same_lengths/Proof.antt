@@ -1,12 +1,12 @@
 -- `store::same_lengths` meets its contract: too few words are refused first, else each test is the definition's.
-use mathlib.Core.Path.{_≡_, sym, ap, _∙_}
+use mathlib.Core.Path.{_≡_, sym, ap}
 use mathlib.Core.Bool.{Bool, _&&_}
 use mathlib.Core.List.{List}
 use Prim.Native.Nat.{ℕ}
 use borrow.Author.Needs.{needs}
 use borrow.Author.Tests.{le-leb, lt-leb}
 use lib.ListN.{length, getD}
-use lib.Dec.{leb, eqb}
+use lib.Dec.{eqb}
 use Rattle.model.specs.declared.Lengths.{Lengths}
 use Rattle.model.specs.Memory.{sameLengths}
 use Rattle.store.proofs.same_lengths.Statement.{statement}
