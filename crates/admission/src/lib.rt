@@ -145,7 +145,7 @@ fn first_piece(store: &[u64], q: Request) -> FoundPiece
     if store.len() < at + 68 {
         return none;
     }
-    regionmap::piece_at(&store[at..at + 68], q.offset, q.length)
+    pieces::piece_at(&store[at..at + 68], q.offset, q.length)
 }
 
 // Where the range of a request ends; of an accepted one no sum wraps.

@@ -1,3 +1,2 @@
--- `Laws` has the laws of turns and stretches, `Parts` the equations of lists that the steps of a turn in place come down to.
+-- The laws of turns and stretches.
 pub mod Laws
-pub mod Parts

@@ -1,6 +1,7 @@
 // The block (store-io's layout.rs): "Block is a power of two, 512 to 65,536", and what counts in blocks is a multiple of it. Every
 // function is total, on the block 0 too.
 ghost use mathlib.Core.Path.{_≡_};
+ghost use mathlib.Core.Bool.{_&&_};
 ghost use Prim.Native.Nat;
 ghost use Rattle.layout.specs.Block.{isBlock, onBlock};
 
@@ -35,4 +36,11 @@ pub fn min(a: u64, b: u64) -> u64
     ensures { λ r. ⌜ r ≡ Prim.Native.Nat.min a b ⌝ }
 {
     if a < b { a } else { b }
+}
+
+// Both hold (&&, as a value, with no branch in the function that asks).
+pub fn both(a: bool, b: bool) -> bool
+    ensures { λ r. ⌜ r ≡ (a && b) ⌝ }
+{
+    if a { b } else { false }
 }

@@ -190,7 +190,7 @@ fn several() {
 // Document 01's figures of the map: where a position lies, how long its first piece is.
 fn place(position: u64, left: u64) {
     let p = figures_plan();
-    let found = regionmap::piece_at(&p[2..70], Position(position), left);
+    let found = pieces::piece_at(&p[2..70], Position(position), left);
     say(b"position ");
     number(position);
     say(b", ");

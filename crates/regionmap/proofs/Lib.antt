@@ -1,5 +1,4 @@
--- The laws of the map, and what the proofs of this crate share: a list of runs, the words of a map, extents on the card.
-mod Runs
-mod Found
+-- The laws of the map, and what they and the crate runs share: a list of runs, extents on the card.
+pub mod Runs
 mod Extents
 pub mod Laws

@@ -1,7 +1,6 @@
 -- What `prepare` leaves: an admitted opening writes the front of each part of the row memory but the rows, and replies with the depth; a refused
 -- one changes nothing and replies with 0. For the code: the reply that a host gets is the submitter's Open.
 use mathlib.Core.Path.{_≡_}
-use mathlib.Core.Bool.{Bool}
 use mathlib.Core.List.{List}
 use Prim.Native.Nat.{ℕ}
 use lib.ListN.{length}

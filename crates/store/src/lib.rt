@@ -1,36 +1,13 @@
 // The opening (store-io's store.rs and optable.rs make what is opened; the rules are document 01's). It answers 13 where a rule is broken and
 // then changes nothing; else it writes the table into what is lent.
-mod card;
 mod fill;
-mod numbers;
-mod plan;
 
 ghost use mathlib.Core.Path.{_≡_};
-ghost use Rattle.model.specs.Memory.{opens, sameLengths};
+ghost use Rattle.model.specs.Memory.{sameLengths};
 ghost use Rattle.store.specs.Prepared.{lengthsWith, Prepared};
+use layout::both;
 use model::Lengths;
 use model::Opening;
-
-// Whether all rules of an opening hold.
-pub fn admits(o: Opening, plan: &[u64], l: Lengths) -> bool
-    ensures { λ r. ⌜ r ≡ opens o (now (plan .entry)) l ⌝ }
-{
-    if !numbers::numbers(o) {
-        return false;
-    }
-    if !numbers::lengths(o, l, plan.len() as u64) {
-        return false;
-    }
-    let regions = o.regions as usize;
-    if !plan::each_region(plan, regions, o.block) {
-        return false;
-    }
-    let card = numbers::both(
-        card::within_rule(plan, regions, o.card),
-        numbers::both(card::apart_rule(plan, regions), true),
-    );
-    numbers::both(plan::ids_rule(plan, regions), card)
-}
 
 // Writes the table of an admitted opening into the row memory, but for the rows, whose number it returns; else 0, and nothing is written.
 pub fn prepare(
@@ -53,7 +30,7 @@ pub fn prepare(
         owners: owners.len() as u64,
         pool: pool as u64,
     };
-    if !admits(o, plan, l) {
+    if !opening::admits(o, plan, l) {
         return 0;
     }
     let depth = o.depth as usize;
@@ -73,9 +50,9 @@ pub fn same_lengths(store: &[u64], l: Lengths) -> bool
         return false;
     }
     let pool = l.pool == store[18];
-    let owners = numbers::both(l.owners == store[17], pool);
-    let ready = numbers::both(l.ready == store[16], owners);
-    let free = numbers::both(l.free == store[15], ready);
-    let words = numbers::both(l.store == store[14], free);
-    numbers::both(l.rows == store[13], words)
+    let owners = both(l.owners == store[17], pool);
+    let ready = both(l.ready == store[16], owners);
+    let free = both(l.free == store[15], ready);
+    let words = both(l.store == store[14], free);
+    both(l.rows == store[13], words)
 }

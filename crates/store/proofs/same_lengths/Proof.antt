@@ -1,12 +1,12 @@
 -- `store::same_lengths` meets its contract: too few words are refused first, else each test is the definition's.
-use mathlib.Core.Path.{_≡_, sym, ap, _∙_}
+use mathlib.Core.Path.{_≡_, sym, ap}
 use mathlib.Core.Bool.{Bool, _&&_}
 use mathlib.Core.List.{List}
 use Prim.Native.Nat.{ℕ}
 use borrow.Author.Needs.{needs}
 use borrow.Author.Tests.{le-leb, lt-leb}
 use lib.ListN.{length, getD}
-use lib.Dec.{leb, eqb}
+use lib.Dec.{eqb}
 use Rattle.model.specs.declared.Lengths.{Lengths}
 use Rattle.model.specs.Memory.{sameLengths}
 use Rattle.store.proofs.same_lengths.Statement.{statement}
@@ -62,7 +62,7 @@ returns-2 c =
     let a = c .before .before .before .before .before .before .before .before .before .before .before .before .before .before .before .before .before .before .before .args in
     let enough : sameLengths (a .l) (a .store .now) ≡ others (a .l) (a .store .now) =
     ap (λ (t : Bool). t && others (a .l) (a .store .now)) (le-leb 48 (length (a .store .now)) (c .before .before .before .before .before .before .before .before .before .before .before .before .before .before .before .before .before .if1 .left)) in
-    cc enough
+    rw (c .both5 .ensures, c .before .before .before .both4 .ensures, c .before .before .before .before .before .before .both3 .ensures, c .before .before .before .before .before .before .before .before .before .both2 .ensures, c .before .before .before .before .before .before .before .before .before .before .before .before .both .ensures) (sym enough)
 
 pub same-lengths-spec : {M : Type 1} → statement M
 same-lengths-spec =

@@ -8,7 +8,7 @@ use lib.ListN.{length, take, drop, length-append, replicate}
 use lib.Seq.{length-take-le, take-at, drop-append-add, drop-drop}
 use Rattle.model.specs.declared.Opening.{Opening}
 use Rattle.model.specs.declared.Lengths.{Lengths}
-use Rattle.model.specs.Memory.{word01, storeHead, over, storeOpened}
+use Rattle.model.specs.Memory.{storeHead, over, storeOpened}
 use Rattle.store.proofs.fill.put_store.Statement.{statement}
 use Rattle.store.proofs.fill.put_store.Tie as tie
 

@@ -1,0 +1,2 @@
+-- Proofs shared by the functions of this crate.
+pub mod CardRuns
