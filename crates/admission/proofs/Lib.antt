@@ -1,2 +1,3 @@
 -- Proofs about the functions of src/.
 pub mod Holder
+pub mod Asking

@@ -1,5 +1,7 @@
 -- `admission::issue` meets its contract: each arm knows the verdict, and there the definitions compute.
 use mathlib.Core.Path.{sym, ap, _∙_}
+use mathlib.Core.Bool.{true}
+use Rattle.completion.specs.declared.Reply.the-variants.{Piece as piece}
 use Rattle.model.specs.declared.Verdict.{Verdict}
 use Rattle.admission.specs.Decided.{issued, ownersAfter}
 use borrow.Author.Needs.{needs}
@@ -35,7 +37,9 @@ returns-2 : tie.Need-returns-2
 unfolding issued ownersAfter
 returns-2 c =
     let a = c .before .before .before .before .before .before .before .before .before .before .before .args in
-    ?
+    let is = c .before .before .before .before .before .before .before .before .v2 .given .1 in
+    let p = c .before .before .before .before .before .before .before .before .v2 .given .0 .1 .1 .0 in
+    ((λ i. record { row = c .before .start .ensures i; accepts = true; reply = piece (c .queue-tag .ensures i) (p .offset) (p .count) (a .q .buffer) }) ∙ sym (ap (λ (v : Verdict). issued v (a .row) (a .seq) (a .q)) is), c .before .before .before .before .before .lend .ensures ∙ sym (ap (λ (v : Verdict). ownersAfter v (a .q) (a .owners .now)) is))
 
 pub issue-spec : {M : Type 1} → statement M
 issue-spec =
