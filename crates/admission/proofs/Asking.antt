@@ -124,15 +124,18 @@ module _ (s : State) (n : Counts) (store owners : List ℕ) (q : Request) (r : R
       ∙ ap (λ (a : Asked). firstNo (firstNo admits ∷ a ∷ [])) (grouped readies (names ++ checks))
       ∙ grouped admits (readies ++ (names ++ checks))
       ∙ named (admits ++ (readies ++ (names ++ checks)))
-      where
-        admits : List Asked
-        admits = admitList (s .settings) (s .counts) (heldAt s (q .buffer)) (G .gate) (idOf G) q
-        readies : List Asked
-        readies = readyList (s .settings .«read_only») (s .poison) (G .readOnly) (idOf G)
-        names : List Asked
-        names = namesList (s .settings .volume) (liveOf G) (idOf G) q
-        checks : List Asked
-        checks = checkList (liveOf G) (writeOnBlock (s .settings .block) q) (idOf G) q
+    where
+      admits : List Asked
+      admits = admitList (s .settings) (s .counts) (heldAt s (q .buffer)) (G .gate) (idOf G) q
+
+      readies : List Asked
+      readies = readyList (s .settings .«read_only») (s .poison) (G .readOnly) (idOf G)
+
+      names : List Asked
+      names = namesList (s .settings .volume) (liveOf G) (idOf G) q
+
+      checks : List Asked
+      checks = checkList (liveOf G) (writeOnBlock (s .settings .block) q) (idOf G) q
 
   -- a read's groups; questions 12 to 14 add the range
   pub read-asked : (ranged : Context) → ranged ≡ rangeFrom (g .id) (q .offset) (q .length)
@@ -146,12 +149,15 @@ module _ (s : State) (n : Counts) (store owners : List ℕ) (q : Request) (r : R
       ∙ ap (λ (a : Asked). firstNo (firstNo names ∷ a ∷ [])) (grouped admits checks)
       ∙ grouped names (admits ++ checks)
       ∙ named (names ++ (admits ++ checks))
-      where
-        is-ranged : ranged ≡ rangeFrom (G .id) (q .offset) (q .length)
-        is-ranged = e ∙ ap (λ (x : LiveRegion). rangeFrom (x .id) (q .offset) (q .length)) is-live
-        names : List Asked
-        names = namesList (s .settings .volume) (liveOf G) (idOf G) q
-        admits : List Asked
-        admits = admitList (s .settings) (s .counts) (heldAt s (q .buffer)) (G .gate) (idOf G) q
-        checks : List Asked
-        checks = checkList (liveOf G) (readOnBlock (s .settings .block) q) (rangeFrom (G .id) (q .offset) (q .length)) q
+    where
+      is-ranged : ranged ≡ rangeFrom (G .id) (q .offset) (q .length)
+      is-ranged = e ∙ ap (λ (x : LiveRegion). rangeFrom (x .id) (q .offset) (q .length)) is-live
+
+      names : List Asked
+      names = namesList (s .settings .volume) (liveOf G) (idOf G) q
+
+      admits : List Asked
+      admits = admitList (s .settings) (s .counts) (heldAt s (q .buffer)) (G .gate) (idOf G) q
+
+      checks : List Asked
+      checks = checkList (liveOf G) (readOnBlock (s .settings .block) q) (rangeFrom (G .id) (q .offset) (q .length)) q

@@ -1,3 +1,5 @@
 -- Proofs about the functions of src/.
 pub mod Holder
 pub mod Asking
+pub mod Deciding
+pub mod Touching

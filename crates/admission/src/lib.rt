@@ -156,14 +156,7 @@ fn end_of(q: Request) -> Position
 }
 
 // The questions' answer and, where it is yes, what is accepted: the row on top of the free stack, and the first piece.
-fn decide(
-    asked: Asked,
-    live: u64,
-    store: &[u64],
-    free: &[u64],
-    kind: Kind,
-    q: Request,
-) -> Verdict
+fn decide(asked: Asked, live: u64, store: &[u64], free: &[u64], kind: Kind, q: Request) -> Verdict
     ensures { λ r. ⌜ DecidedBy asked live (now (store .entry)) (now (free .entry)) kind q r ⌝ }
 {
     match asked {

@@ -25,6 +25,7 @@ pub record Passed (s : State) (q : Request) : Type 0 where
   pub room : s .counts .live + s .counts .ready < s .settings .depth
   pub left : s .counts .submissions < s .settings .lifetime
   pub some : 0 < q .length
+  pub whole : q .offset .0 + q .length < 2 ^ 64
   pub in-data : q .offset .0 + q .length ≤ regionAt s (q .handle) .map .dataLength
 
 never : {A : Type 0} {f : Refusal} → No f ≡ Yes → A
@@ -67,6 +68,7 @@ module _ (s : State) (q : Request) (c d : Context) where
         room = ltb-true _ _ (answered _ _ e₄);
         left = ltb-true _ _ (answered _ _ e₅);
         some = ltb-true _ _ (answered _ _ e₁₂);
+        whole = ltb-true _ _ (and-left (ltb end (2 ^ 64)) _ (answered (ltb end (2 ^ 64) && leb end (regionAt s (q .handle) .map .dataLength)) _ e₁₄));
         in-data = leb-true _ _ (and-right (ltb end (2 ^ 64)) _ (answered (ltb end (2 ^ 64) && leb end (regionAt s (q .handle) .map .dataLength)) _ e₁₄));
       }
 

@@ -8,7 +8,7 @@ use native.Mathlib.Omega.{arith}
 use lib.ListN.{length, getD, set, take, drop}
 use lib.Seq.{take-set-lt, drop-drop}
 use lib.Dec.{leb, eqb}
-use borrow.Author.Tests.{le-leb, eqb-true}
+use borrow.Author.Tests.{le-leb, leb-true, eqb-true}
 use Rattle.layout.specs.Pick.{pick}
 use Rattle.layout.proofs.Tests.{and-left, and-right}
 use Rattle.model.specs.declared.Counts.{Counts}
@@ -39,15 +39,18 @@ pub taken-in : (c : Counts) (l : Lent) (r : ℕ) (row : Row) (b : ℕ) → r < s
 unfolding stateIn oneMore ownerIn pick
 taken-in c l r row b below among =
     λ i. record { settings = s .settings; lengths = s .lengths; regions = s .regions; poison = s .poison; counts = oneMore c; rows = take-set-lt d (l .rows) r row below i; free = sym (drop-drop 1 (c .live) (take d (l .free))) i; ready = s .ready; owners = owners-are i; pool = s .pool }
-    where
-      s : State
-      s = stateIn c l
-      d : ℕ
-      d = settingsIn (l .store) .depth
-      n : ℕ
-      n = settingsIn (l .store) .buffers
-      owners-are : map ownerIn (take n (set (l .owners) b 1)) ≡ set (map ownerIn (take n (l .owners))) b table
-      owners-are = ap (map ownerIn) (take-set-lt n (l .owners) b 1 among) ∙ map-set ownerIn (take n (l .owners)) b 1
+  where
+    s : State
+    s = stateIn c l
+
+    d : ℕ
+    d = settingsIn (l .store) .depth
+
+    n : ℕ
+    n = settingsIn (l .store) .buffers
+
+    owners-are : map ownerIn (take n (set (l .owners) b 1)) ≡ set (map ownerIn (take n (l .owners))) b table
+    owners-are = ap (map ownerIn) (take-set-lt n (l .owners) b 1 among) ∙ map-set ownerIn (take n (l .owners)) b 1
 
 -- a test that another one implies adds nothing to it
 absorbed : (a b : Bool) → (b ≡ true → a ≡ true) → (a && b) ≡ b
@@ -67,3 +70,32 @@ lengths-same c l i =
     let same = eqb-true (length w) (getD w 14 0) (and-left (eqb (length w) (getD w 14 0)) stacks both) in
     let enough = i .room .store in
     le-leb 48 (length w) (omega (arith, same, enough))
+
+-- the lengths are those that the words remember
+pub lengths-are : (l : Lengths) (s : List ℕ) → sameLengths l s ≡ true → l ≡ lengthsIn s
+unfolding sameLengths lengthsIn
+lengths-are l s e =
+    let rows = eqb (l .rows) (getD s 13 0) in
+    let store = eqb (l .store) (getD s 14 0) in
+    let free = eqb (l .free) (getD s 15 0) in
+    let ready = eqb (l .ready) (getD s 16 0) in
+    let owners = eqb (l .owners) (getD s 17 0) in
+    let pool = eqb (l .pool) (getD s 18 0) in
+    let e₁ = and-right (leb 48 (length s)) (rows && (store && (free && (ready && (owners && pool))))) e in
+    let e₂ = and-right rows (store && (free && (ready && (owners && pool)))) e₁ in
+    let e₃ = and-right store (free && (ready && (owners && pool))) e₂ in
+    let e₄ = and-right free (ready && (owners && pool)) e₃ in
+    let e₅ = and-right ready (owners && pool) e₄ in
+    λ i. record {
+      rows = eqb-true (l .rows) (getD s 13 0) (and-left rows (store && (free && (ready && (owners && pool)))) e₁) i;
+      store = eqb-true (l .store) (getD s 14 0) (and-left store (free && (ready && (owners && pool))) e₂) i;
+      free = eqb-true (l .free) (getD s 15 0) (and-left free (ready && (owners && pool)) e₃) i;
+      ready = eqb-true (l .ready) (getD s 16 0) (and-left ready (owners && pool) e₄) i;
+      owners = eqb-true (l .owners) (getD s 17 0) (and-left owners pool e₅) i;
+      pool = eqb-true (l .pool) (getD s 18 0) (and-right owners pool e₅) i;
+    }
+
+-- there are words for them
+pub enough-words : (l : Lengths) (s : List ℕ) → sameLengths l s ≡ true → 48 ≤ length s
+unfolding sameLengths
+enough-words l s e = leb-true 48 (length s) (and-left (leb 48 (length s)) _ e)
