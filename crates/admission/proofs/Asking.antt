@@ -1,7 +1,7 @@
 -- The questions in groups, as the code asks them, come to the list of the definition: the first no of two groups is that of both lists, and what
 -- the code reads from the words is what the state holds.
 use mathlib.Core.Path.{_≡_, refl, sym, ap, _∙_}
-use mathlib.Core.Bool.{Bool, true, false}
+use mathlib.Core.Bool.{Bool}
 use mathlib.Core.List.{List, [], _∷_, _++_, map}
 use Prim.Native.Nat.{ℕ, _≤_, _<_}
 use lib.ListN.{length, getD, take}
@@ -18,11 +18,11 @@ use Rattle.model.specs.declared.Request.{Request}
 use Rattle.model.specs.declared.Asked.{Asked}
 use Rattle.model.specs.declared.Asked.the-variants.{Yes, No}
 use Rattle.model.specs.State.{Region, State, Owner.lost}
-use Rattle.model.specs.Memory.{flag, settingsIn, poisonIn, ownerIn}
+use Rattle.model.specs.Memory.{settingsIn, poisonIn, ownerIn}
 use Rattle.step.specs.Questions.{ask, firstNo, isHost, heldAt, idOf, rangeFrom, regionAt, handleNamesRegion, bufferInPool, hostHoldsBuffer, roomInTable, lifetimeLeft, gateOpen, storeWritable, unpoisoned, regionWritable, volumeAndRegionMatch, generationMatches, lengthAbove0, writeOnBlock, readOnBlock, aligned, withinData, writeQuestions, readQuestions}
 use Rattle.liveregion.specs.declared.LiveRegion.{LiveRegion}
-use Rattle.liveregion.specs.Live.{InStore, regionOf, liveOf, ShortError}
-use Rattle.admission.specs.Decided.{Reads}
+use Rattle.liveregion.specs.Live.{InStore, regionOf, liveOf}
+use Rattle.admission.specs.Asks.{Reads}
 
 -- ---- groups
 

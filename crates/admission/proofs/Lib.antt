@@ -1,5 +1,3 @@
 -- Proofs about the functions of src/.
 pub mod Holder
 pub mod Asking
-pub mod Deciding
-pub mod Touching

@@ -8,7 +8,7 @@ use native.Mathlib.Omega.{arith}
 use lib.ListN.{length, getD, set, take, drop}
 use lib.Seq.{take-set-lt, drop-drop}
 use lib.Dec.{leb, eqb}
-use borrow.Author.Tests.{le-leb, leb-true, eqb-true}
+use borrow.Author.Tests.{le-leb, eqb-true}
 use Rattle.layout.specs.Pick.{pick}
 use Rattle.layout.proofs.Tests.{and-left, and-right}
 use Rattle.model.specs.declared.Counts.{Counts}
@@ -94,8 +94,3 @@ lengths-are l s e =
       owners = eqb-true (l .owners) (getD s 17 0) (and-left owners pool e₅) i;
       pool = eqb-true (l .pool) (getD s 18 0) (and-right owners pool e₅) i;
     }
-
--- there are words for them
-pub enough-words : (l : Lengths) (s : List ℕ) → sameLengths l s ≡ true → 48 ≤ length s
-unfolding sameLengths
-enough-words l s e = leb-true 48 (length s) (and-left (leb 48 (length s)) _ e)

@@ -1,6 +1,7 @@
 -- `admission::ask_read` meets its contract: the groups' answers, put together, are that of the list (Asking).
 use mathlib.Core.Path.{_∙_}
 use mathlib.Core.List.{[], _∷_}
+use native.Mathlib.Omega.{arith}
 use Rattle.model.specs.Memory.{settingsIn}
 use Rattle.step.specs.Questions.{firstNo, readQuestions}
 use Rattle.admission.proofs.Asking.{checkList, foreign, read-asked}
@@ -8,14 +9,17 @@ use borrow.Author.Needs.{needs}
 use Rattle.admission.proofs.ask_read.Statement.{statement}
 use Rattle.admission.proofs.ask_read.Tie as tie
 
-shared-slice-read-if1 : tie.Need-shared-slice-read-if1
-shared-slice-read-if1 c = search needs
-
 returns : tie.Need-returns
+returns c = λ s r. absurd (omega (arith, r .words, c .if1 .taken))
+
+shared-slice-read-if2 : tie.Need-shared-slice-read-if2
+shared-slice-read-if2 c = search needs
+
+returns-2 : tie.Need-returns-2
 unfolding readQuestions
-returns c =
-    let a = c .before .before .before .before .before .args in
-    λ s r. foreign s (a .counts) (a .store .now) (a .owners .now) (a .q) _ r (c .if1 .taken)
+returns-2 c =
+    let a = c .before .before .before .before .before .before .args in
+    λ s r. foreign s (a .counts) (a .store .now) (a .owners .now) (a .q) _ r (c .if2 .taken)
 
 region-at-requires : tie.Need-region-at-requires
 region-at-requires c κs = search needs
@@ -56,21 +60,22 @@ both-requires c κs = search needs
 both-requires-2 : tie.Need-both-requires-2
 both-requires-2 c κs = search needs
 
-returns-2 : tie.Need-returns-2
+returns-3 : tie.Need-returns-3
 unfolding settingsIn
-returns-2 c =
-    let start = c .before .before .before .before .before .before .before .before .before .before .before .before .before .before .before .before .before .before .before in
+returns-3 c =
+    let start = c .before .before .before .before .before .before .before .before .before .before .before .before .before .before .before .before .before .before .before .before in
     let a = start .args in
     λ s r.
     (λ i. (c .both2 .ensures ∙ λ j. firstNo (c .before .before .before .before .before .before .before .before .names .ensures j ∷ (c .before .both .ensures ∙ λ k. firstNo (c .before .before .before .before .before .before .before .admit .ensures k ∷ (c .before .before .check .ensures ∙ λ m. firstNo (checkList (c .before .before .before .before .before .before .before .before .before .before .before .before .before .region-at .result) (c .before .before .before .read-on-block .ensures m) (c .before .before .before .before .before .ctx-range .result) (a .q))) k ∷ [])) j ∷ [])) i)
-    ∙ read-asked s (a .counts) (a .store .now) (a .owners .now) (a .q) r (c .before .before .before .before .before .before .before .before .before .before .before .before .before .before .if1 .left) (c .before .before .before .before .before .before .before .before .before .before .before .before .before .region-at .result) (c .before .before .before .before .before .before .before .before .before .before .before .before .ctx .result) (c .before .before .before .before .before .before .before .before .before .before .held .result) (record { region = c .before .before .before .before .before .before .before .before .before .before .before .before .before .region-at .ensures; context = c .before .before .before .before .before .before .before .before .before .before .before .before .ctx .ensures; holder = c .before .before .before .before .before .before .before .before .before .before .held .ensures }) (c .before .before .before .before .before .ctx-range .result) (c .before .before .before .before .before .ctx-range .ensures)
+    ∙ read-asked s (a .counts) (a .store .now) (a .owners .now) (a .q) r (c .before .before .before .before .before .before .before .before .before .before .before .before .before .before .if2 .left) (c .before .before .before .before .before .before .before .before .before .before .before .before .before .region-at .result) (c .before .before .before .before .before .before .before .before .before .before .before .before .ctx .result) (c .before .before .before .before .before .before .before .before .before .before .held .result) (record { region = c .before .before .before .before .before .before .before .before .before .before .before .before .before .region-at .ensures; context = c .before .before .before .before .before .before .before .before .before .before .before .before .ctx .ensures; holder = c .before .before .before .before .before .before .before .before .before .before .held .ensures }) (c .before .before .before .before .before .ctx-range .result) (c .before .before .before .before .before .ctx-range .ensures)
 
 pub ask-read-spec : {M : Type 1} → statement M
 ask-read-spec =
     tie.close
     (tie.spec
-    shared-slice-read-if1
     returns
+    shared-slice-read-if2
+    returns-2
     region-at-requires
     ctx-requires
     shared-slice-read-held
@@ -84,4 +89,4 @@ ask-read-spec =
     check-requires
     both-requires
     both-requires-2
-    returns-2)
+    returns-3)

@@ -1,6 +1,7 @@
 -- `admission::ask_write` meets its contract: the groups' answers, put together, are that of the list (Asking).
 use mathlib.Core.Path.{_∙_}
 use mathlib.Core.List.{[], _∷_}
+use native.Mathlib.Omega.{arith}
 use Rattle.model.specs.Memory.{flag, settingsIn}
 use Rattle.step.specs.Questions.{firstNo, writeQuestions}
 use Rattle.admission.proofs.Asking.{checkList, foreign, write-asked}
@@ -8,14 +9,17 @@ use borrow.Author.Needs.{needs}
 use Rattle.admission.proofs.ask_write.Statement.{statement}
 use Rattle.admission.proofs.ask_write.Tie as tie
 
-shared-slice-read-if1 : tie.Need-shared-slice-read-if1
-shared-slice-read-if1 c = search needs
-
 returns : tie.Need-returns
+returns c = λ s r. absurd (omega (arith, r .words, c .if1 .taken))
+
+shared-slice-read-if2 : tie.Need-shared-slice-read-if2
+shared-slice-read-if2 c = search needs
+
+returns-2 : tie.Need-returns-2
 unfolding writeQuestions
-returns c =
-    let a = c .before .before .before .before .before .args in
-    λ s r. foreign s (a .counts) (a .store .now) (a .owners .now) (a .q) _ r (c .if1 .taken)
+returns-2 c =
+    let a = c .before .before .before .before .before .before .args in
+    λ s r. foreign s (a .counts) (a .store .now) (a .owners .now) (a .q) _ r (c .if2 .taken)
 
 region-at-requires : tie.Need-region-at-requires
 region-at-requires c κs = search needs
@@ -65,21 +69,22 @@ both-requires-2 c κs = search needs
 both-requires-3 : tie.Need-both-requires-3
 both-requires-3 c κs = search needs
 
-returns-2 : tie.Need-returns-2
+returns-3 : tie.Need-returns-3
 unfolding flag settingsIn
-returns-2 c =
-    let start = c .before .before .before .before .before .before .before .before .before .before .before .before .before .before .before .before .before .before .before .before .before in
+returns-3 c =
+    let start = c .before .before .before .before .before .before .before .before .before .before .before .before .before .before .before .before .before .before .before .before .before .before in
     let a = start .args in
     λ s r.
     (λ i. (c .both3 .ensures ∙ λ j. firstNo (c .before .before .before .before .before .before .before .before .before .before .before .admit .ensures j ∷ (c .before .both2 .ensures ∙ λ k. firstNo (c .before .before .before .before .before .before .before .before .ready-for .ensures k ∷ (c .before .before .both .ensures ∙ λ l. firstNo (c .before .before .before .before .before .before .names .ensures l ∷ (c .before .before .before .check .ensures ∙ λ m. firstNo (checkList (c .before .before .before .before .before .before .before .before .before .before .before .before .before .before .before .region-at .result) (c .before .before .before .before .write-on-block .ensures m) (c .before .before .before .before .before .before .before .before .before .before .before .before .before .before .ctx .result) (a .q))) l ∷ [])) k ∷ [])) j ∷ [])) i)
-    ∙ write-asked s (a .counts) (a .store .now) (a .owners .now) (a .q) r (c .before .before .before .before .before .before .before .before .before .before .before .before .before .before .before .before .if1 .left) (c .before .before .before .before .before .before .before .before .before .before .before .before .before .before .before .region-at .result) (c .before .before .before .before .before .before .before .before .before .before .before .before .before .before .ctx .result) (c .before .before .before .before .before .before .before .before .before .before .before .before .held .result) (record { region = c .before .before .before .before .before .before .before .before .before .before .before .before .before .before .before .region-at .ensures; context = c .before .before .before .before .before .before .before .before .before .before .before .before .before .before .ctx .ensures; holder = c .before .before .before .before .before .before .before .before .before .before .before .before .held .ensures }) (c .before .before .before .before .before .before .before .before .before .before .poisoned .result) (c .before .before .before .before .before .before .before .before .before .before .poisoned .ensures (start .pre) (r .short))
+    ∙ write-asked s (a .counts) (a .store .now) (a .owners .now) (a .q) r (c .before .before .before .before .before .before .before .before .before .before .before .before .before .before .before .before .if2 .left) (c .before .before .before .before .before .before .before .before .before .before .before .before .before .before .before .region-at .result) (c .before .before .before .before .before .before .before .before .before .before .before .before .before .before .ctx .result) (c .before .before .before .before .before .before .before .before .before .before .before .before .held .result) (record { region = c .before .before .before .before .before .before .before .before .before .before .before .before .before .before .before .region-at .ensures; context = c .before .before .before .before .before .before .before .before .before .before .before .before .before .before .ctx .ensures; holder = c .before .before .before .before .before .before .before .before .before .before .before .before .held .ensures }) (c .before .before .before .before .before .before .before .before .before .before .poisoned .result) (c .before .before .before .before .before .before .before .before .before .before .poisoned .ensures (r .words) (r .short))
 
 pub ask-write-spec : {M : Type 1} → statement M
 ask-write-spec =
     tie.close
     (tie.spec
-    shared-slice-read-if1
     returns
+    shared-slice-read-if2
+    returns-2
     region-at-requires
     ctx-requires
     shared-slice-read-held
@@ -96,4 +101,4 @@ ask-write-spec =
     both-requires
     both-requires-2
     both-requires-3
-    returns-2)
+    returns-3)

@@ -1,14 +1,14 @@
--- `admission::touch` meets its contract: each call's verdict, and what `issue` leaves of it, is one step (Touching).
+-- `issue::touch` meets its contract: each call's verdict, and what `issue` leaves of it, is one step (Touching).
 use mathlib.Core.Path.{refl}
 use Rattle.model.specs.declared.Call.the-variants.{Write, ReadPage}
 use Rattle.model.specs.declared.Kind.the-variants.{Page, Read}
 use Rattle.step.specs.Questions.{regionAt, firstNo, writeQuestions, readQuestions}
 use Rattle.step.specs.Step.{startOf, endOf, writeVerdict, readVerdict, called}
 use Rattle.step.proofs.Answers.{write-passed, read-passed}
-use Rattle.admission.proofs.Touching.{went, touches}
+use Rattle.issue.proofs.Touching.{went, touches}
 use borrow.Author.Needs.{needs}
-use Rattle.admission.proofs.touch.Statement.{statement}
-use Rattle.admission.proofs.touch.Tie as tie
+use Rattle.issue.proofs.touch.Statement.{statement}
+use Rattle.issue.proofs.touch.Tie as tie
 
 enum-known-call : tie.Need-enum-known-call
 enum-known-call c = search needs

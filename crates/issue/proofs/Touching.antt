@@ -4,10 +4,10 @@ use mathlib.Core.Path.{_≡_, refl, sym, ap, _∙_, subst}
 use mathlib.Core.Logic.{_⊎_, inl, inr}
 use mathlib.Core.Bool.{Bool, true, false}
 use mathlib.Core.List.{List}
-use Prim.Native.Nat.{ℕ, _+_, _-_, _*_, _≤_, _<_, _%_, _^_}
+use Prim.Native.Nat.{ℕ, _+_, _*_, _<_, _%_, _^_}
 use native.Mathlib.Nat.{mod-eq-of-lt}
 use native.Mathlib.Omega.{arith}
-use lib.ListN.{length, getD, set, take, drop, length-set}
+use lib.ListN.{length, getD, set, length-set}
 use lib.Seq.{set-getD, drop-set-lt, getD-take}
 use Rattle.layout.specs.Pick.{pick}
 use Rattle.layout.proofs.Tests.{true-or-false}
@@ -18,7 +18,6 @@ use Rattle.completion.specs.declared.Refusal.the-variants.{Unfit}
 use Rattle.completion.specs.declared.Reply.{Reply}
 use Rattle.completion.specs.declared.Reply.the-variants.{Piece as piece, No as turnedAway, Rejected, Done, Flush, Took, None, Ok, Writes, Mark}
 use Rattle.model.specs.declared.Counts.{Counts}
-use Rattle.model.specs.declared.Lengths.{Lengths}
 use Rattle.model.specs.declared.Row.{Row}
 use Rattle.model.specs.declared.Request.{Request}
 use Rattle.model.specs.declared.Call.{Call}
@@ -28,17 +27,17 @@ use Rattle.model.specs.declared.Asked.the-variants.{Yes, No}
 use Rattle.model.specs.declared.Verdict.{Verdict}
 use Rattle.model.specs.declared.Verdict.the-variants.{No as refuses, Accept}
 use Rattle.model.specs.State.{State, freed}
-use Rattle.model.specs.Memory.{Lent, lengthsOf, lengthsIn, sameLengths, settingsIn, stateIn}
-use Rattle.step.specs.Step.{queueTag, claimedBy, topOf, rowAt, oneMore, accepted, verdictOf, submitted, called, eqLengths, step}
+use Rattle.model.specs.Memory.{Lent, lengthsOf, sameLengths, settingsIn, stateIn}
+use Rattle.step.specs.Step.{queueTag, claimedBy, topOf, rowAt, oneMore, accepted, verdictOf, submitted, called, step}
 use Rattle.step.specs.Sound.{Sound}
 use Rattle.step.proofs.Answers.{Passed}
 use Rattle.step.proofs.Taken as stack
-use Rattle.step.proofs.Memory.{storedIn, taken, taken-in, lengths-same}
+use Rattle.step.proofs.Memory.{storedIn, taken-in, lengths-same}
 use Rattle.optable.specs.Counted.{acceptedIf}
-use Rattle.admission.specs.declared.Touched.{Touched}
-use Rattle.admission.specs.Decided.{lentOf, Decides, issued, ownersAfter}
-use Rattle.admission.specs.Touched.{Beyond, CallsTo, TouchesTo}
-use Rattle.admission.proofs.Deciding.{top-is}
+use Rattle.issue.specs.declared.Touched.{Touched}
+use Rattle.submission.specs.Decided.{lentOf, Decides}
+use Rattle.submission.proofs.Deciding.{top-is}
+use Rattle.issue.specs.Touched.{issued, ownersAfter, Beyond, CallsTo, TouchesTo}
 
 -- a piece turns nobody away, and a refusal accepts nobody
 abbrev Away : Reply → Type 0

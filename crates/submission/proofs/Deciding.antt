@@ -14,9 +14,7 @@ use Rattle.regionmap.specs.declared.Position.{Position}
 use Rattle.regionmap.specs.declared.FoundPiece.{FoundPiece}
 use Rattle.regionmap.specs.Map.{Map, place, pieceSize, ascends}
 use Rattle.regionmap.specs.Words.{HoldsMap, mapIn, pieceFound, positionOf, offsetOf, wrap64}
-use Rattle.domain.specs.declared.OsError.{OsError}
 use Rattle.domain.specs.declared.OsError.the-variants.{None as noError, Raw}
-use Rattle.domain.specs.declared.Poisoned.{Poisoned}
 use Rattle.domain.specs.declared.Poisoned.the-variants.{Never, First}
 use Rattle.completion.specs.declared.Refusal.the-variants.{Unfit}
 use Rattle.model.specs.declared.Counts.{Counts}
@@ -39,7 +37,8 @@ use Rattle.step.proofs.Answers.{Passed}
 use Rattle.step.proofs.Memory.{lengths-are}
 use Rattle.liveregion.specs.Live.{InStore, regionOf, ShortError}
 use Rattle.liveregion.proofs.Laws.{live-laws}
-use Rattle.admission.specs.Decided.{lentOf, Reads, Questions, FirstPiece, DecidedBy, Decides, verdictWith, endWrapped}
+use Rattle.admission.specs.Asks.{Reads, Questions}
+use Rattle.submission.specs.Decided.{lentOf, FirstPiece, DecidedBy, Decides, verdictWith, endWrapped}
 
 -- two words fewer
 two-less : (ws : List ℕ) → drop 2 (take 70 ws) ≡ take 68 (drop 2 ws)
@@ -82,6 +81,7 @@ module _ (c : Counts) (rows : List Row) (store free ready owners pool : List ℕ
   pub reads : Reads s c store owners
   unfolding stateIn
   reads = record {
+    words = omega (arith, store-long);
     counts = refl;
     settings = refl;
     poison = refl;

@@ -1,12 +1,12 @@
--- `admission::issue` meets its contract: each arm knows the verdict, and there the definitions compute.
+-- `issue::issue` meets its contract: each arm knows the verdict, and there the definitions compute.
 use mathlib.Core.Path.{sym, ap, _∙_}
 use mathlib.Core.Bool.{true}
 use Rattle.completion.specs.declared.Reply.the-variants.{Piece as piece}
 use Rattle.model.specs.declared.Verdict.{Verdict}
-use Rattle.admission.specs.Decided.{issued, ownersAfter}
+use Rattle.issue.specs.Touched.{issued, ownersAfter}
 use borrow.Author.Needs.{needs}
-use Rattle.admission.proofs.issue.Statement.{statement}
-use Rattle.admission.proofs.issue.Tie as tie
+use Rattle.issue.proofs.issue.Statement.{statement}
+use Rattle.issue.proofs.issue.Tie as tie
 
 enum-known-v : tie.Need-enum-known-v
 enum-known-v c = search needs

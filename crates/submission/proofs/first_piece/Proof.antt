@@ -1,4 +1,4 @@
--- `admission::first_piece` meets its contract, by that of `piece_at` on the region's words; where the contract asks, none is missing.
+-- `submission::first_piece` meets its contract, by that of `piece_at` on the region's words; where the contract asks, none is missing.
 use mathlib.Core.Path.{_≡_, ap, subst}
 use mathlib.Core.List.{List}
 use Prim.Native.Nat.{ℕ, _+_, _-_, _*_}
@@ -6,8 +6,8 @@ use native.Mathlib.Omega.{arith}
 use lib.ListN.{take, drop}
 use Rattle.regionmap.specs.Words.{HoldsMap, mapIn, pieceFound}
 use borrow.Author.Needs.{needs}
-use Rattle.admission.proofs.first_piece.Statement.{statement}
-use Rattle.admission.proofs.first_piece.Tie as tie
+use Rattle.submission.proofs.first_piece.Statement.{statement}
+use Rattle.submission.proofs.first_piece.Tie as tie
 
 returns : tie.Need-returns
 returns c = λ inside _. absurd (omega (arith, inside .below, c .if1 .taken))

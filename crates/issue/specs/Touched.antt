@@ -1,25 +1,40 @@
 -- What a call leaves: its reply, the counts, and all that is lent. One equation with the step, of every sound table; and what holds of any words.
 use mathlib.Core.Path.{_≡_}
-use mathlib.Core.Bool.{Bool, true, false}
+use mathlib.Core.Bool.{true, false}
 use mathlib.Core.List.{List}
-use Prim.Native.Nat.{ℕ, _+_, _*_}
+use Prim.Native.Nat.{ℕ}
 use lib.ListN.{length, getD, drop, set}
+use Rattle.regionmap.specs.Words.{wrap64}
 use Rattle.completion.specs.declared.Refusal.{Refusal}
 use Rattle.completion.specs.declared.Refusal.the-variants.{Unfit}
 use Rattle.completion.specs.declared.Reply.{Reply}
-use Rattle.completion.specs.declared.Reply.the-variants.{No as turnedAway}
+use Rattle.completion.specs.declared.Reply.the-variants.{Piece as piece, No as turnedAway}
 use Rattle.model.specs.declared.Opening.{Opening}
 use Rattle.model.specs.declared.Counts.{Counts}
 use Rattle.model.specs.declared.Row.{Row}
 use Rattle.model.specs.declared.Call.{Call}
+use Rattle.model.specs.declared.Request.{Request}
+use Rattle.model.specs.declared.Verdict.{Verdict}
+use Rattle.model.specs.declared.Verdict.the-variants.{No as refuses, Accept}
 use Rattle.model.specs.State.{freed}
 use Rattle.model.specs.Opening.{storeWords, readyWords}
 use Rattle.model.specs.Memory.{Lent, lengthsOf, sameLengths, settingsIn, stateIn}
-use Rattle.step.specs.Step.{step}
+use Rattle.step.specs.Step.{queueTag, claimedBy, step}
 use Rattle.step.specs.Sound.{Sound}
 use Rattle.optable.specs.Counted.{acceptedIf}
-use Rattle.admission.specs.declared.Touched.{Touched}
-use Rattle.admission.specs.Decided.{lentOf}
+use Rattle.submission.specs.Decided.{lentOf}
+use Rattle.issue.specs.declared.Touched.{Touched}
+
+-- the row, the counts and the reply that a verdict leads to, of the row on top of the free stack and the next sequence number
+unfoldable pub issued : Verdict → Row → ℕ → Request → Touched
+issued (refuses f) row seq q = record { row = row; accepts = false; reply = turnedAway f }
+issued (Accept r k p) row seq q =
+    record { row = claimedBy (row .generation) seq k q; accepts = true; reply = piece (wrap64 (queueTag r (row .generation))) (p .offset) (p .count) (q .buffer) }
+
+-- the owners' words after it: 1 is the table
+unfoldable pub ownersAfter : Verdict → Request → List ℕ → List ℕ
+ownersAfter (refuses f) q owners = owners
+ownersAfter (Accept r k p) q owners = set owners (q .buffer) 1
 
 -- nothing lent beyond what the table needs is written, and no length changes
 pub record Beyond (o : Opening) (l l′ : Lent) : Type 0 where

@@ -1,9 +1,9 @@
--- `admission::lend` meets its contract: past the end no word is stored.
+-- `issue::lend` meets its contract: past the end no word is stored.
 use mathlib.Core.Path.{sym}
 use borrow.Author.Needs.{needs}
 use lib.Seq.{set-out}
-use Rattle.admission.proofs.lend.Statement.{statement}
-use Rattle.admission.proofs.lend.Tie as tie
+use Rattle.issue.proofs.lend.Statement.{statement}
+use Rattle.issue.proofs.lend.Tie as tie
 
 mul-owners : tie.Need-mul-owners
 mul-owners c = search needs

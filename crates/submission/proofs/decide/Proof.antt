@@ -1,4 +1,4 @@
--- `admission::decide` meets its contract: each arm knows the questions' answer, and there the definition computes.
+-- `submission::decide` meets its contract: each arm knows the questions' answer, and there the definition computes.
 use mathlib.Core.Path.{_≡_, sym, ap, _∙_, subst}
 use Prim.Native.Nat.{ℕ}
 use lib.ListN.{getD}
@@ -6,10 +6,10 @@ use Rattle.completion.specs.declared.Refusal.{Refusal}
 use Rattle.model.specs.declared.Asked.{Asked}
 use Rattle.model.specs.declared.Asked.the-variants.{Yes, No}
 use Rattle.model.specs.declared.Verdict.the-variants.{Accept}
-use Rattle.admission.specs.Decided.{verdictWith}
+use Rattle.submission.specs.Decided.{verdictWith}
 use borrow.Author.Needs.{needs}
-use Rattle.admission.proofs.decide.Statement.{statement}
-use Rattle.admission.proofs.decide.Tie as tie
+use Rattle.submission.proofs.decide.Statement.{statement}
+use Rattle.submission.proofs.decide.Tie as tie
 
 enum-known-asked : tie.Need-enum-known-asked
 enum-known-asked c = search needs

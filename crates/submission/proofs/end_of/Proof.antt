@@ -1,9 +1,9 @@
--- `admission::end_of` meets its contract, by that of the wrapping sum.
+-- `submission::end_of` meets its contract, by that of the wrapping sum.
 use mathlib.Core.Path.{ap}
 use borrow.Author.Needs.{needs}
 use Rattle.regionmap.specs.Words.{positionOf, wrap64}
-use Rattle.admission.proofs.end_of.Statement.{statement}
-use Rattle.admission.proofs.end_of.Tie as tie
+use Rattle.submission.proofs.end_of.Statement.{statement}
+use Rattle.submission.proofs.end_of.Tie as tie
 
 wrapping-add-u64-requires : tie.Need-wrapping-add-u64-requires
 wrapping-add-u64-requires c κs = search needs

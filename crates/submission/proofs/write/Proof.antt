@@ -1,15 +1,14 @@
--- `admission::write` meets its contract: the lengths first, then the questions' answer decides (Deciding).
+-- `submission::write` meets its contract: the lengths first, then the questions' answer decides (Deciding).
 use mathlib.Core.Path.{sym, _∙_}
 use borrow.Author.Tests.{not-true, not-false}
 use Rattle.model.specs.declared.Kind.the-variants.{Page}
 use Rattle.step.specs.Questions.{writeQuestions}
 use Rattle.step.specs.Step.{startOf, writeVerdict}
 use Rattle.step.proofs.Answers.{write-passed}
-use Rattle.step.proofs.Memory.{enough-words}
-use Rattle.admission.proofs.Deciding.{refused-length, decides}
+use Rattle.submission.proofs.Deciding.{refused-length, decides}
 use borrow.Author.Needs.{needs}
-use Rattle.admission.proofs.write.Statement.{statement}
-use Rattle.admission.proofs.write.Tie as tie
+use Rattle.submission.proofs.write.Statement.{statement}
+use Rattle.submission.proofs.write.Tie as tie
 
 same-lengths-requires : tie.Need-same-lengths-requires
 same-lengths-requires c κs = search needs
@@ -20,9 +19,7 @@ returns c =
     refused-length _ (a .counts) (a .l) (a .store .now) (a .free .now) (a .owners .now) (a .q) (sym (c .before .same-lengths .ensures) ∙ not-true _ (c .if1 .taken))
 
 ask-write-requires : tie.Need-ask-write-requires
-ask-write-requires c κs =
-    let a = c .before .before .before .before .before .args in
-    enough-words (a .l) (a .store .now) (sym (c .before .same-lengths .ensures) ∙ not-false _ (c .if1 .left))
+ask-write-requires c κs = search needs
 
 end-of-requires : tie.Need-end-of-requires
 end-of-requires c κs = search needs

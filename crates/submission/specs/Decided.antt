@@ -1,14 +1,14 @@
 -- What the functions of a submission are promised to give, for tables whose parts lie in the words that they are lent.
 use mathlib.Core.Path.{_≡_}
-use mathlib.Core.Bool.{Bool, true, false}
+use mathlib.Core.Bool.{true, false}
 use mathlib.Core.List.{List, map}
-use Prim.Native.Nat.{ℕ, _+_, _<_}
-use lib.ListN.{getD, take, set}
+use Prim.Native.Nat.{ℕ, _+_}
+use lib.ListN.{getD}
 use Rattle.regionmap.specs.declared.FoundPiece.{FoundPiece}
 use Rattle.regionmap.specs.declared.Position.{Position}
 use Rattle.regionmap.specs.Words.{HoldsMap, mapIn, pieceFound, positionOf, wrap64}
 use Rattle.completion.specs.declared.Refusal.the-variants.{Unfit}
-use Rattle.completion.specs.declared.Reply.the-variants.{Piece as piece, No as turnedAway}
+use Rattle.completion.specs.declared.Reply.the-variants.{Piece as piece}
 use Rattle.model.specs.declared.Counts.{Counts}
 use Rattle.model.specs.declared.Lengths.{Lengths}
 use Rattle.model.specs.declared.Request.{Request}
@@ -18,31 +18,14 @@ use Rattle.model.specs.declared.Asked.the-variants.{Yes, No}
 use Rattle.model.specs.declared.Kind.{Kind}
 use Rattle.model.specs.declared.Verdict.{Verdict}
 use Rattle.model.specs.declared.Verdict.the-variants.{No as refuses, Accept}
-use Rattle.model.specs.State.{State, Region}
-use Rattle.model.specs.Memory.{Lent, lengthsOf, sameLengths, settingsIn, poisonIn, ownerIn, stateIn}
+use Rattle.model.specs.State.{State}
+use Rattle.model.specs.Memory.{Lent, lengthsOf, sameLengths, stateIn}
 use Rattle.model.specs.Laws.{mapWordsAt}
-use Rattle.step.specs.Questions.{regionAt, firstNo}
-use Rattle.step.specs.Step.{queueTag, claimedBy}
 use Rattle.step.specs.Sound.{Sound}
-use Rattle.liveregion.specs.Live.{InStore, regionOf, ShortError}
-use Rattle.admission.specs.declared.Touched.{Touched}
+use Rattle.liveregion.specs.Live.{InStore}
 
 abbrev pub lentOf : List Row → List ℕ → List ℕ → List ℕ → List ℕ → List ℕ → Lent
 lentOf rows store free ready owners pool = record { rows = rows; store = store; free = free; ready = ready; owners = owners; pool = pool }
-
--- a state whose counts are c and whose settings, poison, regions and owners lie in these words
-pub record Reads (s : State) (c : Counts) (store owners : List ℕ) : Type 0 where
-  pub counts : s .counts ≡ c
-  pub settings : s .settings ≡ settingsIn store
-  pub poison : s .poison ≡ poisonIn store
-  pub short : ShortError store
-  pub owners-are : s .owners ≡ map ownerIn (take (settingsIn store .buffers) owners)
-  pub in-store : (h : ℕ) → h < settingsIn store .regions → InStore store h
-  pub regions : (h : ℕ) → h < settingsIn store .regions → regionAt s h ≡ regionOf store h
-
--- the answer to a list of questions
-abbrev pub Questions : (State → Region → Request → List Asked) → Counts → List ℕ → List ℕ → Request → Asked → Type 0
-Questions list c store owners q r = (s : State) → Reads s c store owners → r ≡ firstNo (list s (regionAt s (q .handle)) q)
 
 -- the map's piece for a request, of the region at its handle
 abbrev pub FirstPiece : List ℕ → Request → FoundPiece → Type 0
@@ -67,14 +50,3 @@ pub record Decides (verdict : State → Request → Verdict) (c : Counts) (l : L
   pub another-length : sameLengths l store ≡ false → v ≡ refuses Unfit
   pub as-defined : sameLengths l store ≡ true → (rows : List Row) (ready pool : List ℕ) → lengthsOf (lentOf rows store free ready owners pool) ≡ l
       → Sound (stateIn c (lentOf rows store free ready owners pool)) → v ≡ verdict (stateIn c (lentOf rows store free ready owners pool)) q
-
--- the row, the counts and the reply that a verdict leads to, of the row on top of the free stack and the next sequence number
-unfoldable pub issued : Verdict → Row → ℕ → Request → Touched
-issued (refuses f) row seq q = record { row = row; accepts = false; reply = turnedAway f }
-issued (Accept r k p) row seq q =
-    record { row = claimedBy (row .generation) seq k q; accepts = true; reply = piece (wrap64 (queueTag r (row .generation))) (p .offset) (p .count) (q .buffer) }
-
--- the owners' words after it: 1 is the table
-unfoldable pub ownersAfter : Verdict → Request → List ℕ → List ℕ
-ownersAfter (refuses f) q owners = owners
-ownersAfter (Accept r k p) q owners = set owners (q .buffer) 1

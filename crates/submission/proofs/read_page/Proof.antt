@@ -1,15 +1,14 @@
--- `admission::read_page` meets its contract: the lengths first, then the questions' answer decides (Deciding).
+-- `submission::read_page` meets its contract: the lengths first, then the questions' answer decides (Deciding).
 use mathlib.Core.Path.{sym, _∙_}
 use borrow.Author.Tests.{not-true, not-false}
 use Rattle.model.specs.declared.Kind.the-variants.{Read}
 use Rattle.step.specs.Questions.{readQuestions}
 use Rattle.step.specs.Step.{startOf, readVerdict}
 use Rattle.step.proofs.Answers.{read-passed}
-use Rattle.step.proofs.Memory.{enough-words}
-use Rattle.admission.proofs.Deciding.{refused-length, decides}
+use Rattle.submission.proofs.Deciding.{refused-length, decides}
 use borrow.Author.Needs.{needs}
-use Rattle.admission.proofs.read_page.Statement.{statement}
-use Rattle.admission.proofs.read_page.Tie as tie
+use Rattle.submission.proofs.read_page.Statement.{statement}
+use Rattle.submission.proofs.read_page.Tie as tie
 
 same-lengths-requires : tie.Need-same-lengths-requires
 same-lengths-requires c κs = search needs
@@ -20,9 +19,7 @@ returns c =
     refused-length _ (a .counts) (a .l) (a .store .now) (a .free .now) (a .owners .now) (a .q) (sym (c .before .same-lengths .ensures) ∙ not-true _ (c .if1 .taken))
 
 ask-read-requires : tie.Need-ask-read-requires
-ask-read-requires c κs =
-    let a = c .before .before .before .before .before .args in
-    enough-words (a .l) (a .store .now) (sym (c .before .same-lengths .ensures) ∙ not-false _ (c .if1 .left))
+ask-read-requires c κs = search needs
 
 end-of-requires : tie.Need-end-of-requires
 end-of-requires c κs = search needs

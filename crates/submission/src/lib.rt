@@ -1,0 +1,100 @@
+// Whether a submission is accepted, and as what (store-io's submitter/mod.rs: write, read_page and read, first_piece): the lengths, the questions, and
+// of an accepted one the row on top of the free stack and the first piece.
+ghost use mathlib.Core.Path.{_≡_};
+ghost use Rattle.step.specs.Step.{writeVerdict, readVerdict};
+ghost use Rattle.submission.specs.Decided.{FirstPiece, DecidedBy, Decides, endWrapped};
+use completion::Refusal;
+use model::Asked;
+use model::Counts;
+use model::Kind;
+use model::Lengths;
+use model::Request;
+use model::Verdict;
+use regionmap::FoundPiece;
+use regionmap::Offset;
+use regionmap::Position;
+
+// The first piece of a request (first_piece); none where the words are too few.
+fn first_piece(store: &[u64], q: Request) -> FoundPiece
+    ensures { λ r. ⌜ FirstPiece (now (store .entry)) q r ⌝ }
+{
+    let none = FoundPiece {
+        offset: Offset(0),
+        count: 0,
+    };
+    if 8 <= q.handle {
+        return none;
+    }
+    let at = 50 + 70 * q.handle as usize;
+    if store.len() < at + 68 {
+        return none;
+    }
+    pieces::piece_at(&store[at..at + 68], q.offset, q.length)
+}
+
+// Where the range of a request ends; of an accepted one no sum wraps.
+fn end_of(q: Request) -> Position
+    ensures { λ r. ⌜ r ≡ endWrapped q ⌝ }
+{
+    Position(std::num::wrapping_add_u64(q.offset.0, q.length))
+}
+
+// The questions' answer and, where it is yes, what is accepted: the row on top of the free stack, and the first piece.
+fn decide(asked: Asked, live: u64, store: &[u64], free: &[u64], kind: Kind, q: Request) -> Verdict
+    ensures { λ r. ⌜ DecidedBy asked live (now (store .entry)) (now (free .entry)) kind q r ⌝ }
+{
+    match asked {
+        Asked::No(refusal) => Verdict::No(refusal),
+        Asked::Yes => Verdict::Accept {
+            row: optable::top(free, live),
+            kind,
+            piece: first_piece(store, q),
+        },
+    }
+}
+
+// Whether a write is accepted, and as what (Submitter::write); 13 first.
+pub fn write(
+    counts: Counts,
+    l: Lengths,
+    store: &[u64],
+    free: &[u64],
+    owners: &[u64],
+    q: Request,
+) -> Verdict
+    ensures { λ r. ⌜ Decides writeVerdict counts l (now (store .entry)) (now (free .entry)) (now (owners .entry)) q r ⌝ }
+{
+    if !store::same_lengths(store, l) {
+        return Verdict::No(Refusal::Unfit);
+    }
+    let asked = admission::ask_write(counts, store, owners, q);
+    let start = q.offset;
+    let kind = Kind::Page {
+        start,
+        end: end_of(q),
+    };
+    decide(asked, counts.live, store, free, kind, q)
+}
+
+// Whether a read is accepted, and as what (Submitter::read_page and read); 13 first.
+pub fn read_page(
+    counts: Counts,
+    l: Lengths,
+    store: &[u64],
+    free: &[u64],
+    owners: &[u64],
+    q: Request,
+) -> Verdict
+    ensures { λ r. ⌜ Decides readVerdict counts l (now (store .entry)) (now (free .entry)) (now (owners .entry)) q r ⌝ }
+{
+    if !store::same_lengths(store, l) {
+        return Verdict::No(Refusal::Unfit);
+    }
+    let asked = admission::ask_read(counts, store, owners, q);
+    let start = q.offset;
+    let kind = Kind::Read {
+        start,
+        end: end_of(q),
+    };
+    decide(asked, counts.live, store, free, kind, q)
+}
