@@ -4,20 +4,20 @@ use Rattle.layout.specs.Pick.{pick}
 use Rattle.layout.specs.Block.{powerBelow, isBlock, onBlock}
 use Rattle.regionmap.specs.Map.{spanFrom, runOf, runEnd, runLeft, place, pieceSize, ascends, spansFrom, spans, extent, extents, apart, apartFrom, allApart, allWithin}
 use Rattle.regionmap.specs.Words.{runsIn, mapIn}
-use Rattle.completion.specs.Numbers.{number}
+use Rattle.completion.specs.Numbers.{number, values, contextValues}
 use Rattle.model.specs.State.{freed, upFrom}
 use Rattle.model.specs.Opening.{among, distinct, idsRule, runsOnBlock, blocksRule, mapRule, regionRule, eachRegion, allExtents, apartRule, withinRule}
 use Rattle.model.specs.Opening.{allTrue, numberRules, lengthRules, regionRules, admits, atFirst, opened}
 use Rattle.model.specs.Memory.{planIn, plansIn, listed, opens}
-use Rattle.step.specs.Questions.{ask, firstNo, handleNamesRegion, bufferInPool, isHost, heldAt, hostHoldsBuffer, roomInTable, lifetimeLeft, gateOpen, storeWritable, unpoisoned}
+use Rattle.step.specs.Questions.{rangeFrom, ask, firstNo, handleNamesRegion, bufferInPool, isHost, heldAt, hostHoldsBuffer, roomInTable, lifetimeLeft, gateOpen, storeWritable, unpoisoned}
 use Rattle.step.specs.Questions.{regionWritable, volumeAndRegionMatch, generationMatches, lengthAbove0, writeOnBlock, readOnBlock, aligned, withinData, regionAt}
 use Rattle.step.specs.Questions.{writeQuestions, readQuestions}
 use Rattle.step.specs.Step.{pieceOf, queueTag, topOf, rowAt, verdictOf, writeVerdict, readVerdict, submitted, eqLengths, called, step}
 use Rattle.step.specs.Laws.{issuedUpTo}
-use Rattle.step.specs.Figures.{figuresOpening, figuresPlan, figuresLengths, figuresTable, asking, replyTo, numberOf, Figures}
+use Rattle.step.specs.Figures.{figuresOpening, figuresPlan, figuresLengths, figuresTable, asking, replyTo, numberOf, valuesOf, Figures}
 
 pub figures : Figures
-unfolding figuresOpening figuresPlan figuresLengths figuresTable asking replyTo numberOf number issuedUpTo
+unfolding figuresOpening figuresPlan figuresLengths figuresTable asking replyTo numberOf number valuesOf values contextValues rangeFrom issuedUpTo
     pieceOf queueTag topOf rowAt verdictOf writeVerdict readVerdict submitted eqLengths called step
     ask firstNo handleNamesRegion bufferInPool isHost heldAt hostHoldsBuffer roomInTable lifetimeLeft gateOpen storeWritable unpoisoned
     regionWritable volumeAndRegionMatch generationMatches lengthAbove0 writeOnBlock readOnBlock aligned withinData regionAt writeQuestions readQuestions
@@ -29,10 +29,12 @@ figures = record {
   opens-them = refl;
   write-512 = refl;
   at-1536 = refl;
+  two-pieces = refl;
   one-piece = refl;
   too-long = refl;
   far-out = refl;
   read-256 = refl;
   write-256 = refl;
+  read-256-values = refl;
   empty = refl;
 }

@@ -1,7 +1,8 @@
 -- The laws of every step. A call that is turned away keeps the state; one that is not was answered yes to every question, and its state is the accepted
 -- one. The pieces issued are the map's, by induction on their number.
-use mathlib.Core.Path.{_≡_, refl}
+use mathlib.Core.Path.{_≡_, refl, ap}
 use mathlib.Core.Bool.{Bool, true, false}
+use mathlib.Core.List.{List, map}
 use Prim.Native.Nat.{ℕ, zero, suc, _+_, _-_}
 use native.Mathlib.Nat.{add-zero, sub-zero}
 use native.Mathlib.Omega.{arith}
@@ -24,9 +25,13 @@ use Rattle.model.specs.declared.Verdict.the-variants.{No as refuses, Accept}
 use Rattle.model.specs.declared.Call.{Call}
 use Rattle.model.specs.declared.Call.the-variants.{Write, ReadPage}
 use Rattle.model.specs.State.{State}
+use Rattle.model.specs.Opening.{opened}
 use Rattle.step.specs.Step.{startOf, endOf, begun, pieceOf, verdictOf, writeVerdict, readVerdict, submitted, eqLengths, called, step}
 use Rattle.step.specs.Sound.{rangeStart, rangeEnd, SplitFits, Sound}
-use Rattle.step.specs.Laws.{stepped, issuedUpTo, StepLaws}
+use Rattle.step.specs.Laws.{onCard, stepped, issuedUpTo, StepLaws}
+use Rattle.step.proofs.Numbers.{write-numbers, read-numbers}
+use Rattle.step.proofs.Histories.{leaves, histories}
+use Rattle.step.proofs.Transfers.{one-write, one-read}
 use Rattle.step.proofs.Answers.{Passed, write-passed, read-passed}
 use Rattle.step.proofs.Accepted.{Covers, keeps-accepted}
 use Rattle.step.proofs.Opened.{opened-sound}
@@ -75,13 +80,13 @@ turned-away s l c = by-lengths (eqLengths l (s .lengths)) (Unchanged s) (called 
 
 -- ---- the pieces
 
-issued-from : (n : ℕ) (m : Map) (start : ℕ) (s : Split) → issuedUpTo n m start s ≡ piecesUpTo n m (start + s .done) (s .total - s .done)
+issued-from : (n : ℕ) (m : Map) (start : ℕ) (s : Split) → issuedUpTo n m start s ≡ map (onCard m) (piecesUpTo n m (start + s .done) (s .total - s .done))
 unfolding issuedUpTo piecesUpTo pieceOf pick
 issued-from zero m start s = refl
 issued-from (suc n) m start s = by-left (s .total - s .done) refl (issued-from n m start (stepped m start s))
   where
-    by-left : (left : ℕ) → s .total - s .done ≡ left → issuedUpTo n m start (stepped m start s) ≡ piecesUpTo n m (start + stepped m start s .done) (s .total - stepped m start s .done)
-        → issuedUpTo (suc n) m start s ≡ piecesUpTo (suc n) m (start + s .done) left
+    by-left : (left : ℕ) → s .total - s .done ≡ left → issuedUpTo n m start (stepped m start s) ≡ map (onCard m) (piecesUpTo n m (start + stepped m start s .done) (s .total - stepped m start s .done))
+        → issuedUpTo (suc n) m start s ≡ map (onCard m) (piecesUpTo (suc n) m (start + s .done) left)
     by-left zero e behind = rw (le-ltb (s .done) (s .total) (omega arith))
     by-left (suc left) e behind =
         let count = pieceSize m (start + s .done) (s .total - s .done) in
@@ -89,11 +94,22 @@ issued-from (suc n) m start s = by-left (s .total - s .done) refl (issued-from n
         let less : s .total - (s .done + count) ≡ s .total - s .done - count = omega arith in
         rw (lt-ltb (s .done) (s .total) (omega arith), behind, next, less, e)
 
+another-length : (s : State) (l : Lengths) (c : Call) → eqLengths l (s .lengths) ≡ false → step s l c .1 ≡ turnedAway Unfit
+unfolding step pick
+another-length s l c e = ap (λ (t : Bool). pick t (called s c) (s, turnedAway Unfit) .1) e
+
 pub step-laws : StepLaws
-unfolding pieces
+unfolding pieces opened
 step-laws = record {
   opening = opened-sound;
   keeps = keeps;
+  leaves = leaves;
+  history = λ o plan l pool ok e es p. histories keeps _ (opened-sound o plan l pool ok e) (l .pool) refl es p;
   turned-away = turned-away;
+  another-length = another-length;
+  write-numbers = write-numbers;
+  read-numbers = read-numbers;
   issued = λ m start total. rw (add-zero, sub-zero) at (issued-from total m start (begun total));
+  write = λ s q i e x len. one-write s q i (write-passed s q e) x len;
+  read = λ s q i e x len. one-read s q i (read-passed s q e) x len;
 }

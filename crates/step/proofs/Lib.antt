@@ -5,5 +5,8 @@ pub mod Taken
 pub mod Accepted
 pub mod Opened
 pub mod Memory
+pub mod Numbers
+pub mod Histories
+pub mod Transfers
 pub mod Laws
 pub mod Figures

@@ -1,5 +1,5 @@
 -- Document 01, "A submission, question by question": each question once, in the write's order and with its sentence, then the write's list and the
--- read's. "The first question that fails decides."
+-- read's. The first question that fails decides.
 use mathlib.Core.Bool.{Bool, true, false, not, _&&_}
 use mathlib.Core.List.{List, [], _∷_}
 use Prim.Native.Nat.{ℕ, _+_, _-_, _^_, min}
@@ -142,7 +142,7 @@ writeQuestions s g q =
     ∷ withinData (g .map .dataLength) (idOf g) q
     ∷ []
 
--- "Read: questions 1, 10, 11, 2, 3, 4, 5, 6, 12; then 13 for offset and length; then 14. Poison and read-only do not stop a read"
+-- "Read (`read_page`, then `read`): questions 1, 10, 11, 2, 3, 4, 5, 6, 12; then 13 for offset and length; then 14. Poison and read-only do not stop a read"
 unfoldable pub readQuestions : State → Region → Request → List Asked
 readQuestions s g q =
     handleNamesRegion (s .settings .regions) q

@@ -79,7 +79,7 @@ SplitFits (Piece (Page a b) s) = (a .0 + s .total ≡ b .0) × (s .done < s .tot
 SplitFits (Piece (Read a b) s) = (a .0 + s .total ≡ b .0) × (s .done < s .total)
 SplitFits (Flush t) = Unit {0}
 
--- "every live row's range lies in its region's data", and fits its buffer, which is in the pool
+-- a live row's range lies in its region's data and fits its buffer, which is in the pool
 pub record InTable (s : State) (r : Row) : Type 0 where
   pub region : r .handle < s .settings .regions
   pub buffer : r .buffer < s .settings .buffers
@@ -87,10 +87,10 @@ pub record InTable (s : State) (r : Row) : Type 0 where
   pub in-data : rangeEnd (r .awaits) ≤ regionAt s (r .handle) .map .dataLength
   pub length : rangeEnd (r .awaits) ≤ rangeStart (r .awaits) + s .settings .capacity
   pub split : SplitFits (r .awaits)
-  -- "every live row's sequence number is below the next"
+  -- its sequence number is below the next
   pub before : r .seq < s .counts .submissions
 
--- a region as the opening admitted it
+-- what is used of a region as the opening admitted it
 pub record SoundRegion (o : Opening) (g : Region) : Type 0 where
   pub generation : g .generation < 2 ^ 32
   pub runs : length (g .map .more) ≤ 32
@@ -123,7 +123,7 @@ pub record Sound (s : State) : Type 0 where
   pub live : s .counts .live ≡ liveRows (s .rows)
   pub ready : s .counts .ready ≡ length (s .ready)
   pub submissions : s .counts .submissions ≤ s .settings .lifetime
-  -- "free plus live rows equal the depth"
+  -- "free plus live rows equal the depth after every call"
   pub balance : length (s .free) + liveRows (s .rows) ≡ s .settings .depth
   -- the free stack names each free row once, and nothing else
   pub free-once : (r : ℕ) → r < s .settings .depth → times r (s .free) + awaiting (rowAt s r .awaits) ≡ 1
@@ -132,11 +132,11 @@ pub record Sound (s : State) : Type 0 where
   pub most : s .counts .live + s .counts .ready ≤ s .settings .depth
   -- generations have 32 bits
   pub generations : (r : ℕ) → r < s .settings .depth → rowAt s r .generation < 2 ^ 32
-  -- "no two live rows or completions hold one buffer and none that the host holds": of a buffer that the table has there is one holder, of another none
+  -- no two live rows or completions hold one buffer, and none holds one that the host holds: of a buffer that the table has there is one holder, of another none
   pub owners : length (s .owners) ≡ s .settings .buffers
   pub holders : (b : ℕ) → rowsHold b (s .rows) + readyHold b (s .ready) ≡ tableHas (getD (s .owners) b lost)
   -- each live row's operation
   pub in-table : (r : ℕ) → r < s .settings .depth → awaiting (rowAt s r .awaits) ≡ 1 → InTable s (rowAt s r)
-  -- ".. and no two are equal"
+  -- no two live rows have one sequence number
   pub seqs : (r k : ℕ) → r < s .settings .depth → k < s .settings .depth → awaiting (rowAt s r .awaits) ≡ 1 → awaiting (rowAt s k .awaits) ≡ 1
       → rowAt s r .seq ≡ rowAt s k .seq → r ≡ k

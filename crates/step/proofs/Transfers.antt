@@ -1,0 +1,40 @@
+-- The pieces of an accepted operation act like one transfer: what the questions and soundness make sure of is what the transfer's theorem asks.
+use mathlib.Core.Path.{_≡_, sym, ap, _∙_}
+use Prim.Native.Nat.{ℕ, suc, _+_, _*_, _≤_, _<_}
+use native.Mathlib.Nat.{suc-mul, mul-le-mul-right, add-left-cancel}
+use native.Mathlib.Omega.{arith}
+use lib.ListN.{length}
+use Rattle.transfer.specs.Transfer.{CardAndPool, Operation, wrote, readIn, whole, Accepted, Distinct, OneWrite, OneRead}
+use Rattle.transfer.proofs.Theorem.{transfers}
+use Rattle.model.specs.declared.Request.{Request}
+use Rattle.model.specs.State.{State}
+use Rattle.step.specs.Questions.{regionAt}
+use Rattle.step.specs.Sound.{Sound}
+use Rattle.step.specs.Laws.{operationOf}
+use Rattle.step.proofs.Answers.{Passed}
+
+module _ (s : State) (q : Request) (i : Sound s) (p : Passed s q) (x : CardAndPool) (e : length (x .pool) ≡ s .lengths .pool) where
+  in-capacity : (j : ℕ) → j < q .length → q .offset .0 + j < regionAt s (q .handle) .map .capacity
+  in-capacity j l = let d = p .in-data in let w = i .each (q .handle) (p .region) .lawful .within in omega (arith, d, w, l)
+
+  distinct : Distinct (operationOf s q)
+  distinct j k lj lk same = add-left-cancel (q .offset .0) (i .apart (q .handle) (q .handle) (q .offset .0 + j) (q .offset .0 + k) (p .region) (p .region) (in-capacity j lj) (in-capacity k lk) same .1)
+
+  accepted : Accepted (operationOf s q) (x .pool)
+  accepted = record {
+    lawful = i .each (q .handle) (p .region) .lawful;
+    inData = p .in-data;
+    inBuffer = p .fits;
+    inPool =
+        let cap = s .settings .capacity in
+        let one : q .buffer * cap + cap ≡ suc (q .buffer) * cap = sym (suc-mul (q .buffer) cap) in
+        let all : suc (q .buffer) * cap ≤ s .settings .buffers * cap = mul-le-mul-right cap (p .buffer) in
+        let whole-pool = i .pool-is in
+        omega (arith, one, all, e, whole-pool);
+  }
+
+  pub one-write : OneWrite (operationOf s q) x (whole wrote (operationOf s q) x)
+  one-write = transfers .write (operationOf s q) x accepted distinct
+
+  pub one-read : OneRead (operationOf s q) x (whole readIn (operationOf s q) x)
+  one-read = transfers .read (operationOf s q) x accepted
