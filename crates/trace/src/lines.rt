@@ -2,8 +2,9 @@
 // however long." The first 4,096 bytes are kept, and whether there are more.
 ghost use mathlib.Core.Path.{_≡_};
 ghost use mathlib.Core.List.{List, [], _∷_, _++_};
-ghost use Prim.Native.Nat.{ℕ};
-ghost use Rattle.trace.specs.Trace.{Kept, lineRead};
+ghost use Prim.Native.Nat.{ℕ, _≤_};
+ghost use lib.ListN.{length, take};
+ghost use Rattle.trace.specs.Trace.{Kept, lineIn, lineRead};
 use crate::Line;
 use crate::Reader;
 use crate::read_line;
@@ -22,17 +23,26 @@ pub fn start() -> Reader
 pub fn feed(r: Reader, line: &mut [u8; 4096], b: u8) -> Reader
     ensures { λ r′. ⌜ ((bytes : List ℕ) → Kept r (now (line .entry)) bytes → Kept r′ (now (line .exit)) (bytes ++ (b ∷ []))) ⌝ }
 {
-    if 4096 <= r.kept {
+    let at = r.kept;
+    if 4096 <= at {
         return Reader {
-            kept: r.kept,
+            kept: at,
             long: true,
         };
     }
-    line[r.kept] = b;
+    line[at] = b;
     Reader {
-        kept: r.kept + 1,
+        kept: at + 1,
         long: r.long,
     }
+}
+
+// What the first bytes of a line say.
+fn read_front(line: &[u8], kept: usize) -> Line
+    requires { ⌜ kept ≤ length (now line) ⌝ }
+    ensures { λ l. ⌜ l ≡ lineIn (take kept (now (line .entry))) ⌝ }
+{
+    read_line(&line[..kept])
 }
 
 // What the line says, once all its bytes are there.
@@ -48,5 +58,5 @@ pub fn finish(r: Reader, line: &[u8; 4096]) -> Line
     if 4096 < r.kept {
         return Line::Bad;
     }
-    read_line(&line[..r.kept])
+    read_front(line, r.kept)
 }

@@ -1,0 +1,52 @@
+use borrow.Author.Needs.{needs}
+use Rattle.trace.proofs.write.put_spaced.Statement.{statement}
+use Rattle.trace.proofs.write.put_spaced.Tie as tie
+use Rattle.trace.proofs.write.put_spaced.Reads as reads
+use Rattle.trace.proofs.write.put_spaced.Lts as lts
+use Rattle.io.proofs.decimal.Reads as decimal-reads
+use Rattle.trace.proofs.write.put.Reads as put-reads
+
+-- src/write.rt:30:9
+decimal-requires : tie.Need-decimal-requires
+decimal-requires c κs = search needs
+
+-- src/write.rt:31:20
+slice-aggregate-put : tie.Need-slice-aggregate-put
+slice-aggregate-put c = search needs
+
+-- src/write.rt:31:9
+put-requires : tie.Need-put-requires
+put-requires c κs = search needs
+
+-- src/write.rt:32:9
+array-share-prefix-digits : tie.Need-array-share-prefix-digits
+array-share-prefix-digits c = search needs
+
+-- src/write.rt:32:9
+slice-aggregate-put-2 : tie.Need-slice-aggregate-put-2
+slice-aggregate-put-2 c = search needs
+
+-- src/write.rt:32:5
+put-requires-2 : tie.Need-put-requires-2
+put-requires-2 c κs = ?
+
+-- src/write.rt:25:1
+same-length : tie.Need-same-length
+same-length c = search needs
+
+-- src/write.rt:25:1
+returns : tie.Need-returns
+returns c = ?
+
+pub put-spaced-spec : {M : Type 1} → statement M
+put-spaced-spec =
+    tie.close
+    (tie.spec
+    decimal-requires
+    slice-aggregate-put
+    put-requires
+    array-share-prefix-digits
+    slice-aggregate-put-2
+    put-requires-2
+    same-length
+    returns)
