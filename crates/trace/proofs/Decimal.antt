@@ -3,7 +3,7 @@
 use mathlib.Core.Path.{_≡_, refl, ap, _∙_}
 use mathlib.Core.List.{List, [], _∷_, _++_}
 use Prim.Native.Nat.{ℕ, zero, suc, _+_, _-_, _*_, _/_, _%_, _^_, _≤_, _<_}
-use native.Mathlib.Nat.{le-trans, mul-le-mul-right, one-le-pow, pow-suc, mod-lt, mod-eq-of-lt, le-div-iff-mul-le, div-lt-iff-lt-mul}
+use native.Mathlib.Nat.{le-trans, mul-le-mul-right, one-le-pow, pow-le-pow-right, lt-of-not-le, pow-suc, mod-lt, mod-eq-of-lt, le-div-iff-mul-le, div-lt-iff-lt-mul}
 use native.Mathlib.Omega.{arith}
 use lib.Dec.{ltb}
 use borrow.Author.Tests.{lt-ltb, le-ltb}
@@ -44,6 +44,16 @@ spelled-up-to (suc m) (suc zero) n h f =
 spelled-up-to (suc m) (suc (suc k)) n h f =
     rw (le-ltb n 10 (ten-up n k f), last n, spelled-up-to m (suc k) (n / 10) (omega arith) (front n k f))
 
-pub is-decimal : (k n : ℕ) → k ≤ 20 → Fewest 10 1 n k → digits 10 k n ≡ decimal n
-unfolding decimal
-is-decimal k n h f = spelled-up-to 20 k n h f
+-- a number of 64 bits has at most 20 digits
+module _ (k n : ℕ) (small : n < 2 ^ 64) (f : Fewest 10 1 n k) where
+  pub few : k ≤ 20
+  few =
+      let below : k < 21 =
+        lt-of-not-le (λ (h : 21 ≤ k).
+          let tens : 10 ^ 20 ≤ 10 ^ (k - 1) = pow-le-pow-right {n = 10} (omega arith) {i = 20} {j = k - 1} (omega arith) in
+          let held : 10 ^ (k - 1) ≤ n = f .2 (omega arith) in omega arith)
+      in omega arith
+
+  pub is-decimal : digits 10 k n ≡ decimal n
+  unfolding decimal
+  is-decimal = spelled-up-to 20 k n few f

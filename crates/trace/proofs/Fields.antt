@@ -80,3 +80,8 @@ module _ (l : List ℕ) (i : ℕ) (h : i < length l) where
     unfolding field pick
     field-same zero p = absurd (omega arith)
     field-same (suc k) p = rw (from-on l i h, ne-eqb (getD l i 0) 32 s)
+
+-- the bytes between a field's begin and its end are the field
+pub field-cut : (l : List ℕ) (from to : ℕ) → to ≡ from + length (field 0 (drop from l)) → take (to - from) (drop from l) ≡ field 0 (drop from l)
+field-cut l from to e =
+    let long : to - from ≡ length (field 0 (drop from l)) = omega arith in ap (λ (n : ℕ). take n (drop from l)) long ∙ field-front (drop from l)

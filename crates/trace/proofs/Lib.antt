@@ -2,3 +2,5 @@
 pub mod Fields
 pub mod Numbers
 pub mod Decimal
+pub mod Submissions
+pub mod Kept

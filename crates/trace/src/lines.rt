@@ -2,8 +2,8 @@
 // however long." The first 4,096 bytes are kept, and whether there are more.
 ghost use mathlib.Core.Path.{_≡_};
 ghost use mathlib.Core.List.{List, [], _∷_, _++_};
-ghost use Prim.Native.Nat.{ℕ, _≤_};
-ghost use lib.ListN.{length, take};
+ghost use Prim.Native.Nat.{ℕ, _≤_, _<_};
+ghost use lib.ListN.{length, take, set};
 ghost use Rattle.trace.specs.Trace.{Kept, lineIn, lineRead};
 use crate::Line;
 use crate::Reader;
@@ -19,6 +19,14 @@ pub fn start() -> Reader
     }
 }
 
+// Stores a byte at a place that a line has.
+fn keep(line: &mut [u8], at: usize, b: u8)
+    requires { ⌜ at < length (now line) ⌝ }
+    ensures { λ _. ⌜ (at < length (now (line .entry))) × (now (line .exit) ≡ set (now (line .entry)) at b) ⌝ }
+{
+    line[at] = b;
+}
+
 // One byte more.
 pub fn feed(r: Reader, line: &mut [u8; 4096], b: u8) -> Reader
     ensures { λ r′. ⌜ ((bytes : List ℕ) → Kept r (now (line .entry)) bytes → Kept r′ (now (line .exit)) (bytes ++ (b ∷ []))) ⌝ }
@@ -30,7 +38,7 @@ pub fn feed(r: Reader, line: &mut [u8; 4096], b: u8) -> Reader
             long: true,
         };
     }
-    line[at] = b;
+    keep(line, at, b);
     Reader {
         kept: at + 1,
         long: r.long,

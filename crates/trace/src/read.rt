@@ -2,7 +2,7 @@
 ghost use mathlib.Core.Path.{_≡_};
 ghost use mathlib.Core.Bool.{true, _&&_};
 ghost use Prim.Native.Nat.{_+_, _≤_};
-ghost use lib.ListN.{length, drop};
+ghost use lib.ListN.{length, getD, drop};
 ghost use Rattle.trace.specs.Trace.{spaces, field, numberIn, isSubmission, submissionIn, lineIn};
 use crate::Field;
 use crate::Line;
@@ -143,11 +143,21 @@ fn read_submission(text: &[u8]) -> Submitted
     }
 }
 
+// The first byte of a line; 0 where it has none.
+fn first_byte(text: &[u8]) -> u8
+    ensures { λ r. ⌜ r ≡ getD (now (text .entry)) 0 0 ⌝ }
+{
+    if text.len() == 0 {
+        return 0;
+    }
+    text[0]
+}
+
 // What a line says.
 pub fn read_line(text: &[u8]) -> Line
     ensures { λ r. ⌜ r ≡ lineIn (now (text .entry)) ⌝ }
 {
-    let first = if text.len() == 0 { 0 } else { text[0] };
+    let first = first_byte(text);
     if first == 35 {
         return Line::Comment;
     }

@@ -1,24 +1,21 @@
+-- `trace::feed` meets its contract: the byte is stored while fewer than 4,096 are kept (`Kept`).
+use Rattle.trace.proofs.Kept.{full, stored}
 use borrow.Author.Needs.{needs}
 use Rattle.trace.proofs.lines.feed.Statement.{statement}
 use Rattle.trace.proofs.lines.feed.Tie as tie
-use Rattle.trace.proofs.lines.feed.Reads as reads
-use Rattle.trace.proofs.lines.feed.Lts as lts
 
--- src/lines.rt:28:9
 returns : tie.Need-returns
-returns c = ?
+returns c = λ bytes k. full k (c .before .args .b) (c .if1 .taken)
 
--- src/lines.rt:33:5
-element-write-line : tie.Need-element-write-line
-element-write-line c = search needs
+keep-requires : tie.Need-keep-requires
+keep-requires c κs = search needs
 
--- src/lines.rt:35:15
-add-t8 : tie.Need-add-t8
-add-t8 c = search needs
+add-t9 : tie.Need-add-t9
+add-t9 c = search needs
 
--- src/lines.rt:23:1
 returns-2 : tie.Need-returns-2
-returns-2 c = ?
+returns-2 c = λ bytes k.
+    rw (c .keep .ensures .1) (stored k (c .before .before .before .args .b) (c .before .before .if1 .left) (c .keep .ensures .0))
 
 pub feed-spec : {M : Type 1} → statement M
-feed-spec = tie.close (tie.spec returns element-write-line add-t8 returns-2)
+feed-spec = tie.close (tie.spec returns keep-requires add-t9 returns-2)

@@ -1,46 +1,44 @@
+-- `trace::piece_text` meets its contract: each part stands behind those put before it, so the buffer's front is the parts in their order.
+use mathlib.Core.Path.{_∙_}
+use native.Mathlib.Omega.{arith}
+use Rattle.trace.specs.Trace.{pieceWord, pieceText}
 use borrow.Author.Needs.{needs}
 use Rattle.trace.proofs.write.piece_text.Statement.{statement}
 use Rattle.trace.proofs.write.piece_text.Tie as tie
-use Rattle.trace.proofs.write.piece_text.Reads as reads
-use Rattle.trace.proofs.write.piece_text.Lts as lts
-use Rattle.trace.proofs.write.put.Reads as put-reads
-use Rattle.trace.proofs.write.put_spaced.Reads as put-spaced-reads
 
--- src/write.rt:64:20
 slice-aggregate-put : tie.Need-slice-aggregate-put
 slice-aggregate-put c = search needs
 
--- src/write.rt:64:9
 put-requires : tie.Need-put-requires
 put-requires c κs = search needs
 
--- src/write.rt:65:9
 put-spaced-requires : tie.Need-put-spaced-requires
 put-spaced-requires c κs = search needs
 
--- src/write.rt:66:9
 put-spaced-requires-2 : tie.Need-put-spaced-requires-2
 put-spaced-requires-2 c κs = search needs
 
--- src/write.rt:67:9
 put-spaced-requires-3 : tie.Need-put-spaced-requires-3
 put-spaced-requires-3 c κs = search needs
 
--- src/write.rt:68:9
 slice-aggregate-put-2 : tie.Need-slice-aggregate-put-2
 slice-aggregate-put-2 c = search needs
 
--- src/write.rt:68:5
 put-requires-2 : tie.Need-put-requires-2
 put-requires-2 c κs = search needs
 
--- src/write.rt:60:1
 same-length : tie.Need-same-length
 same-length c = search needs
 
--- src/write.rt:60:1
 returns : tie.Need-returns
-returns c = ?
+unfolding pieceWord pieceText
+returns c =
+    let ended = c .before .before in
+    let counted = ended .before .before .before .before .before in
+    let placed = counted .before .before .before .before in
+    let tagged = placed .before .before .before .before in
+    let word = tagged .before .before .before .before in
+    (omega arith, ended .put2 .ensures .1 .1 ∙ rw (counted .put-spaced3 .ensures .1 .1, placed .put-spaced2 .ensures .1 .1, tagged .put-spaced .ensures .1 .1, word .put .ensures .1 .1))
 
 pub piece-text-spec : {M : Type 1} → statement M
 piece-text-spec =

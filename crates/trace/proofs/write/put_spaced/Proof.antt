@@ -1,4 +1,11 @@
+use mathlib.Core.Path.{_∙_}
+use mathlib.Core.List.{[], _∷_, append-assoc}
+use Prim.Native.Nat.{_^_, _<_}
+use native.Mathlib.Omega.{arith}
+use lib.ListN.{take}
 use borrow.Author.Needs.{needs}
+use Rattle.trace.specs.Trace.{decimal, spaced}
+use Rattle.trace.proofs.Decimal.{few, is-decimal}
 use Rattle.trace.proofs.write.put_spaced.Statement.{statement}
 use Rattle.trace.proofs.write.put_spaced.Tie as tie
 use Rattle.trace.proofs.write.put_spaced.Reads as reads
@@ -28,7 +35,10 @@ slice-aggregate-put-2 c = search needs
 
 -- src/write.rt:32:5
 put-requires-2 : tie.Need-put-requires-2
-put-requires-2 c κs = ?
+put-requires-2 c κs =
+    let made = c .before .before .before .before .before .before .before in
+    let start = made .before .before .before in
+    let at-most = few (made .decimal .result) (start .args .n) (omega arith) (made .decimal .ensures .1 .0) in omega (arith, made .decimal .ensures .0 .1)
 
 -- src/write.rt:25:1
 same-length : tie.Need-same-length
@@ -36,7 +46,22 @@ same-length c = search needs
 
 -- src/write.rt:25:1
 returns : tie.Need-returns
-returns c = ?
+unfolding spaced
+returns c =
+    let second = c .before .before in
+    let first = second .before .before .before .before .before in
+    let made = first .before .before .before in
+    let start = made .before .before .before in
+    let small : start .args .n < 2 ^ 64 = omega arith in
+    let at-most = few (made .decimal .result) (start .args .n) small (made .decimal .ensures .1 .0) in
+    (
+      omega (arith, made .decimal .ensures .0 .1),
+      (
+        omega arith,
+        second .put2 .ensures .1 .1
+        ∙ rw (made .decimal .ensures .1 .1, is-decimal (made .decimal .result) (start .args .n) small (made .decimal .ensures .1 .0), first .put .ensures .1 .1) (append-assoc (take (start .args .at) (start .args .out .now)) (32 ∷ []) (decimal (start .args .n))),
+      ),
+    )
 
 pub put-spaced-spec : {M : Type 1} → statement M
 put-spaced-spec =

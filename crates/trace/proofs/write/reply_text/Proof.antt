@@ -1,47 +1,61 @@
+-- `trace::reply_text` meets its contract: each arm knows which reply it is, and there the definition computes.
+use mathlib.Core.Path.{_≡_, refl, _∙_}
+use mathlib.Core.List.{List, [], _∷_}
+use Prim.Native.Nat.{ℕ}
+use types.Run.{OneOf, miss}
+use denote.Enum.Declared.{tagOf}
+use native.Mathlib.Omega.{arith}
+use Rattle.completion.specs.declared.Reply.{Reply, the-type}
+use Rattle.completion.specs.declared.Reply.the-variants.{Piece as piece, No as turnedAway, Rejected, Done, Flush, Took, None, Ok, Writes, Mark}
+use Rattle.trace.specs.Trace.{noWord, replyText}
 use borrow.Author.Needs.{needs}
 use Rattle.trace.proofs.write.reply_text.Statement.{statement}
 use Rattle.trace.proofs.write.reply_text.Tie as tie
-use Rattle.trace.proofs.write.reply_text.Reads as reads
-use Rattle.trace.proofs.write.reply_text.Lts as lts
-use Rattle.trace.proofs.write.number_of.Reads as number-of-reads
-use Rattle.trace.proofs.write.numbered_text.Reads as numbered-text-reads
-use Rattle.trace.proofs.write.piece_text.Reads as piece-text-reads
 
--- src/write.rt:94:13
+-- the replies that are printed as nothing, by the numbers of their cases
+silent : (r : Reply) → OneOf (2 ∷ 3 ∷ 4 ∷ 5 ∷ 6 ∷ 7 ∷ 8 ∷ 9 ∷ []) (tagOf the-type r) → [] ≡ replyText r
+unfolding replyText
+silent (piece t o n b) w = absurd (miss (2 ∷ 3 ∷ 4 ∷ 5 ∷ 6 ∷ 7 ∷ 8 ∷ 9 ∷ []) 0 tt w)
+silent (turnedAway f) w = absurd (miss (2 ∷ 3 ∷ 4 ∷ 5 ∷ 6 ∷ 7 ∷ 8 ∷ 9 ∷ []) 1 tt w)
+silent (Rejected g o e b) w = refl
+silent (Done t) w = refl
+silent (Flush t n) w = refl
+silent (Took c) w = refl
+silent None w = refl
+silent Ok w = refl
+silent (Writes b) w = refl
+silent (Mark m) w = refl
+
 enum-known-reply : tie.Need-enum-known-reply
 enum-known-reply c = search needs
 
--- src/write.rt:98:14
 piece-text-requires : tie.Need-piece-text-requires
 piece-text-requires c κs = search needs
 
--- src/write.rt:99:19
 enum-known-reply-2 : tie.Need-enum-known-reply-2
 enum-known-reply-2 c = search needs
 
--- src/write.rt:99:45
 slice-aggregate-numbered-text : tie.Need-slice-aggregate-numbered-text
 slice-aggregate-numbered-text c = search needs
 
--- src/write.rt:99:52
 number-of-requires : tie.Need-number-of-requires
 number-of-requires c κs = search needs
 
--- src/write.rt:99:31
 numbered-text-requires : tie.Need-numbered-text-requires
 numbered-text-requires c κs = search needs
 
--- src/write.rt:89:1
 returns : tie.Need-returns
-returns c = ?
+unfolding replyText
+returns c =
+    (c .piece-text .ensures .0, c .piece-text .ensures .1 ∙ ?)
 
--- src/write.rt:89:1
 returns-2 : tie.Need-returns-2
-returns-2 c = ?
+unfolding replyText noWord
+returns-2 c =
+    (c .numbered-text .ensures .0, c .numbered-text .ensures .1 ∙ ?)
 
--- src/write.rt:89:1
 returns-3 : tie.Need-returns-3
-returns-3 c = ?
+returns-3 c = (omega arith, silent (c .before .args .reply) (c .match .keys3))
 
 pub reply-text-spec : {M : Type 1} → statement M
 reply-text-spec =
