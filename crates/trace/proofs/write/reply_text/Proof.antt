@@ -5,7 +5,8 @@ use Prim.Native.Nat.{ℕ}
 use types.Run.{OneOf, miss}
 use denote.Enum.Declared.{tagOf}
 use native.Mathlib.Omega.{arith}
-use Rattle.completion.specs.declared.Reply.{Reply, the-type}
+use Rattle.completion.specs.declared.Reply.{Reply}
+use Rattle.completion.proofs.Reply.{the-type}
 use Rattle.completion.specs.declared.Reply.the-variants.{Piece as piece, No as turnedAway, Rejected, Done, Flush, Took, None, Ok, Writes, Mark}
 use Rattle.trace.specs.Trace.{noWord, replyText}
 use borrow.Author.Needs.{needs}
@@ -47,12 +48,12 @@ numbered-text-requires c κs = search needs
 returns : tie.Need-returns
 unfolding replyText
 returns c =
-    (c .piece-text .ensures .0, c .piece-text .ensures .1 ∙ ?)
+    (c .piece-text .ensures .0, c .piece-text .ensures .1 ∙ rw (c .before .before .before .reply .given .1))
 
 returns-2 : tie.Need-returns-2
 unfolding replyText noWord
 returns-2 c =
-    (c .numbered-text .ensures .0, c .numbered-text .ensures .1 ∙ ?)
+    (c .numbered-text .ensures .0, c .numbered-text .ensures .1 ∙ rw (c .before .before .before .before .before .reply2 .given .1, c .before .before .number-of .ensures))
 
 returns-3 : tie.Need-returns-3
 returns-3 c = (omega arith, silent (c .before .args .reply) (c .match .keys3))
