@@ -1,11 +1,9 @@
 -- The digits that `io::decimal` makes, the fewest that hold the number, are the number's decimal digits. By induction on how many there are: the
 -- last is the number's remainder by 10, and those in front are the fewest that hold its quotient.
-use mathlib.Core.Path.{_≡_, refl, ap, _∙_}
-use mathlib.Core.List.{List, [], _∷_, _++_}
+use mathlib.Core.Path.{_≡_}
 use Prim.Native.Nat.{ℕ, zero, suc, _+_, _-_, _*_, _/_, _%_, _^_, _≤_, _<_}
 use native.Mathlib.Nat.{le-trans, mul-le-mul-right, one-le-pow, pow-le-pow-right, lt-of-not-le, pow-suc, mod-lt, mod-eq-of-lt, le-div-iff-mul-le, div-lt-iff-lt-mul}
 use native.Mathlib.Omega.{arith}
-use lib.Dec.{ltb}
 use borrow.Author.Tests.{lt-ltb, le-ltb}
 use Rattle.layout.specs.Pick.{pick}
 use Rattle.io.specs.Digits.{glyph, digits, Fewest}
@@ -28,12 +26,11 @@ module _ (n k : ℕ) (f : Fewest 10 1 n (suc (suc k))) where
 
   -- without its last digit it has the fewest digits that hold its quotient
   front : Fewest 10 1 (n / 10) (suc k)
-  front =
-      (
-        omega arith,
-        div-lt-iff-lt-mul {k = 10} (omega arith) .1 (rw (pow-suc 10 (suc k)) at (f .1)),
-        λ more. rw (down k) (le-div-iff-mul-le {k = 10} (omega arith) .1 least),
-      )
+  front = (
+    omega arith,
+    div-lt-iff-lt-mul {k = 10} (omega arith) .1 (rw (pow-suc 10 (suc k)) at (f .1)),
+    λ more. rw (down k) (le-div-iff-mul-le {k = 10} (omega arith) .1 least),
+  )
 
 pub spelled-up-to : (m k n : ℕ) → k ≤ m → Fewest 10 1 n k → digits 10 k n ≡ decimalUpTo m n
 unfolding decimalUpTo pick
@@ -49,9 +46,9 @@ module _ (k n : ℕ) (small : n < 2 ^ 64) (f : Fewest 10 1 n k) where
   pub few : k ≤ 20
   few =
       let below : k < 21 =
-        lt-of-not-le (λ (h : 21 ≤ k).
-          let tens : 10 ^ 20 ≤ 10 ^ (k - 1) = pow-le-pow-right {n = 10} (omega arith) {i = 20} {j = k - 1} (omega arith) in
-          let held : 10 ^ (k - 1) ≤ n = f .2 (omega arith) in omega arith)
+      lt-of-not-le (λ (h : 21 ≤ k).
+      let tens : 10 ^ 20 ≤ 10 ^ (k - 1) = pow-le-pow-right {n = 10} (omega arith) {i = 20} {j = k - 1} (omega arith) in
+      let held : 10 ^ (k - 1) ≤ n = f .2 (omega arith) in omega arith)
       in omega arith
 
   pub is-decimal : digits 10 k n ≡ decimal n

@@ -1,15 +1,14 @@
 -- When a field is a number: exactly where it has 1 to 20 bytes, all digits, whose value is below 2^64; and how value and digits go from a place on.
-use mathlib.Core.Path.{_≡_, refl, sym, ap, _∙_}
+use mathlib.Core.Path.{_≡_}
 use mathlib.Core.List.{List, [], _∷_}
-use mathlib.Core.Bool.{Bool, true, false, _&&_, and-false}
-use Prim.Native.Nat.{ℕ, zero, suc, _+_, _-_, _*_, _^_, _≤_, _<_}
+use mathlib.Core.Bool.{true, false, and-false}
+use Prim.Native.Nat.{ℕ, _+_, _-_, _*_, _^_, _≤_, _<_}
 use native.Mathlib.Omega.{arith}
 use lib.ListN.{length, drop, getD, drop-of-length-le}
-use lib.Dec.{leb, ltb}
+use lib.Dec.{leb}
 use borrow.Author.Tests.{leb-true, ltb-true, le-leb, lt-leb, lt-ltb}
 use Rattle.layout.specs.Pick.{pick}
-use Rattle.layout.proofs.Tests.{refused, and-left, and-right, and-both}
-use Rattle.trace.specs.declared.Field.{Field}
+use Rattle.layout.proofs.Tests.{refused, and-left, and-right}
 use Rattle.trace.specs.Trace.{digit, allDigits, value, isNumber, numberIn}
 use Rattle.trace.proofs.Fields.{from-on}
 

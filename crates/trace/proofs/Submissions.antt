@@ -8,7 +8,6 @@ use lib.ListN.{length}
 use lib.Dec.{leb, eqb}
 use Rattle.layout.specs.Pick.{pick}
 use Rattle.layout.proofs.Tests.{and-left, and-right}
-use Rattle.trace.specs.declared.Submission.{Submission}
 use Rattle.trace.specs.Trace.{spaces, field, value, isNumber, numberIn, isSubmission, submissionIn}
 
 -- the flag is tested where it is a number
@@ -32,12 +31,12 @@ module _ (cs : List ℕ) where
 
   pub submission-fields : isSubmission cs ≡ true
       → record {
-          buffer = numberIn (field 1 cs) .value;
-          position = numberIn (field 2 cs) .value;
-          length = numberIn (field 3 cs) .value;
-          durable = eqb (numberIn (field 4 cs) .value) 1;
-          tag = numberIn (field 5 cs) .value;
-        }
+        buffer = numberIn (field 1 cs) .value;
+        position = numberIn (field 2 cs) .value;
+        length = numberIn (field 3 cs) .value;
+        durable = eqb (numberIn (field 4 cs) .value) 1;
+        tag = numberIn (field 5 cs) .value;
+      }
       ≡ submissionIn cs
   unfolding isSubmission submissionIn numberIn pick
   submission-fields t =

@@ -1,9 +1,9 @@
 -- `trace::count_spaces` meets its contract: the spaces counted and those from i on are all the spaces. The measure is what is left of the line.
-use mathlib.Core.Path.{_≡_, refl, ap, _∙_}
+use mathlib.Core.Path.{_≡_}
 use mathlib.Core.Logic.{⊎-elim}
 use Prim.Native.Nat.{_+_, _-_, _≤_}
 use native.Mathlib.Omega.{arith}
-use lib.ListN.{length, drop, drop-of-length-le}
+use lib.ListN.{length, drop}
 use Rattle.trace.specs.Trace.{spaces}
 use Rattle.trace.proofs.Fields.{spaces-more, spaces-same, spaces-past}
 use Rattle.trace.proofs.read.count_spaces.Statement.{statement}
@@ -28,7 +28,7 @@ add-i : tie.Need-add-i Inv-loop μ-loop
 add-i c = omega arith
 
 loop-less : tie.Need-loop-less Inv-loop μ-loop
-loop-less c = ⊎-elim (λ w. omega arith) (λ w. omega arith) (c .if1 .came)
+loop-less c = omega arith
 
 loop-again : tie.Need-loop-again Inv-loop μ-loop
 loop-again c =

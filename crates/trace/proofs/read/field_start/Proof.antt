@@ -1,8 +1,8 @@
 -- `trace::field_start` meets its contract: the k-th field of the line is the field that is still `left` spaces away of what stands from i on.
 -- The measure is what is left of the line.
-use mathlib.Core.Path.{_≡_, refl, sym, ap, _∙_}
+use mathlib.Core.Path.{_≡_, refl, sym, _∙_}
 use mathlib.Core.Logic.{⊎-elim}
-use Prim.Native.Nat.{ℕ, _-_, _≤_, _<_}
+use Prim.Native.Nat.{_-_, _≤_}
 use native.Mathlib.Omega.{arith}
 use lib.ListN.{length, drop}
 use Rattle.trace.specs.Trace.{field}
@@ -39,12 +39,11 @@ loop-again : tie.Need-loop-again Inv-loop μ-loop
 loop-again c =
     let head = c .before .before .before .before in
     let text = head .before .args .text .now in
-    let i = head .loop .i in
-    (
+    let i = head .loop .i in (
       omega arith,
       head .loop .inv .1
-      ∙ ⊎-elim (λ w. field-next text i (omega arith) (w .0 .taken) (head .loop .left) (omega arith) ∙ rw (w .1))
-      (λ w. field-same text i (omega arith) (w .0 .left) (head .loop .left) (omega arith) ∙ rw (w .1)) (c .if2 .came),
+          ∙ ⊎-elim (λ w. field-next text i (omega arith) (w .0 .taken) (head .loop .left) (omega arith) ∙ rw (w .1))
+          (λ w. field-same text i (omega arith) (w .0 .left) (head .loop .left) (omega arith) ∙ rw (w .1)) (c .if2 .came),
     )
 
 returns-2 : tie.Need-returns-2 Inv-loop μ-loop

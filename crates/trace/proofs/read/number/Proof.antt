@@ -1,13 +1,12 @@
 -- `trace::number` meets its contract: the bytes before i are digits and n is their value, so the whole field is all digits where those from i on are, and
 -- its value is that of the rest behind n. A byte that is no digit, or a value past 64 bits, refuses it. The measure is what is left.
-use mathlib.Core.Path.{_≡_, refl, sym, ap, _∙_}
-use Prim.Native.Nat.{ℕ, _+_, _-_, _*_, _^_, _≤_, _<_}
+use mathlib.Core.Path.{_≡_, refl, sym, _∙_}
+use Prim.Native.Nat.{_+_, _-_, _*_, _^_, _≤_, _<_}
 use native.Mathlib.Omega.{arith}
-use borrow.Author.Needs.{needs}
 use lib.ListN.{length, drop, getD}
 use Rattle.layout.proofs.Tests.{not-both}
 use Rattle.trace.specs.Trace.{value, allDigits}
-use Rattle.trace.proofs.Numbers.{Spelled, no-number, is-number, value-grows, value-on, value-end, digits-on, digits-end, digits-below, digits-above}
+use Rattle.trace.proofs.Numbers.{no-number, is-number, value-grows, value-on, value-end, digits-on, digits-end, digits-below, digits-above}
 use Rattle.trace.proofs.read.number.Statement.{statement}
 use Rattle.trace.proofs.read.number.Tie as tie
 

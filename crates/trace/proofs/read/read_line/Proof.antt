@@ -1,12 +1,11 @@
 -- `trace::read_line` meets its contract: each way out knows the first byte and whether the line is a submission, and there the definition computes.
-use mathlib.Core.Path.{_≡_, refl, sym, ap, _∙_}
+use mathlib.Core.Path.{_≡_, sym, ap, _∙_}
 use mathlib.Core.List.{List}
 use mathlib.Core.Bool.{true, false}
 use Prim.Native.Nat.{ℕ}
 use lib.ListN.{getD}
 use borrow.Author.Tests.{eq-eqb, ne-eqb, not-true, not-false}
 use Rattle.layout.specs.Pick.{pick}
-use Rattle.trace.specs.declared.Line.{Line}
 use Rattle.trace.specs.declared.Line.the-variants.{Comment, Write, Read, Bad}
 use Rattle.trace.specs.Trace.{isSubmission, submissionIn, lineIn}
 use borrow.Author.Needs.{needs}

@@ -1,5 +1,4 @@
 -- `trace::read_submission` meets its contract: its tests, one inside the other, are those of the definition (`Submissions`).
-use mathlib.Core.Path.{sym, _∙_}
 use Rattle.trace.proofs.Submissions.{submission-is, submission-fields}
 use borrow.Author.Needs.{needs}
 use Rattle.trace.proofs.read.read_submission.Statement.{statement}
@@ -50,7 +49,7 @@ both-requires-7 c κs = search needs
 returns : tie.Need-returns
 returns c =
     let text = c .before .before .before .before .before .before .before .before .before .before .before .before .before .before .before .before .before .args .text .now in
-    (cc (submission-is text), λ t. cc (submission-is text, submission-fields text (cc (submission-is text))))
+    (cc (submission-is text), λ t. cc (submission-fields text (cc (submission-is text))))
 
 pub read-submission-spec : {M : Type 1} → statement M
 read-submission-spec =

@@ -40,8 +40,7 @@ loop-again c =
     let text = head .before .args .text .now in
     let out = head .before .args .out .now in
     let at = head .before .args .at in
-    let i = head .loop .i in
-    (
+    let i = head .loop .i in (
       omega arith,
       simp length-set (omega arith),
       rw add-one (ap (λ (l : List ℕ). set l (at + i) (getD text i 0)) (head .loop .inv .2) ∙ paste-suc out at text i 0 (omega arith) (omega arith)),

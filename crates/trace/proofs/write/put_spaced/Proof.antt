@@ -1,3 +1,4 @@
+-- `trace::put_spaced` meets its contract: the digits that `io::decimal` makes are the number's, at most 20 of them (`Decimal`), and stand behind the space.
 use mathlib.Core.Path.{_∙_}
 use mathlib.Core.List.{[], _∷_, append-assoc}
 use Prim.Native.Nat.{_^_, _<_}
@@ -8,43 +9,31 @@ use Rattle.trace.specs.Trace.{decimal, spaced}
 use Rattle.trace.proofs.Decimal.{few, is-decimal}
 use Rattle.trace.proofs.write.put_spaced.Statement.{statement}
 use Rattle.trace.proofs.write.put_spaced.Tie as tie
-use Rattle.trace.proofs.write.put_spaced.Reads as reads
-use Rattle.trace.proofs.write.put_spaced.Lts as lts
-use Rattle.io.proofs.decimal.Reads as decimal-reads
-use Rattle.trace.proofs.write.put.Reads as put-reads
 
--- src/write.rt:30:9
 decimal-requires : tie.Need-decimal-requires
 decimal-requires c κs = search needs
 
--- src/write.rt:31:20
 slice-aggregate-put : tie.Need-slice-aggregate-put
 slice-aggregate-put c = search needs
 
--- src/write.rt:31:9
 put-requires : tie.Need-put-requires
 put-requires c κs = search needs
 
--- src/write.rt:32:9
 array-share-prefix-digits : tie.Need-array-share-prefix-digits
 array-share-prefix-digits c = search needs
 
--- src/write.rt:32:9
 slice-aggregate-put-2 : tie.Need-slice-aggregate-put-2
 slice-aggregate-put-2 c = search needs
 
--- src/write.rt:32:5
 put-requires-2 : tie.Need-put-requires-2
 put-requires-2 c κs =
     let made = c .before .before .before .before .before .before .before in
     let start = made .before .before .before in
     let at-most = few (made .decimal .result) (start .args .n) (omega arith) (made .decimal .ensures .1 .0) in omega (arith, made .decimal .ensures .0 .1)
 
--- src/write.rt:25:1
 same-length : tie.Need-same-length
 same-length c = search needs
 
--- src/write.rt:25:1
 returns : tie.Need-returns
 unfolding spaced
 returns c =
@@ -53,13 +42,12 @@ returns c =
     let made = first .before .before .before in
     let start = made .before .before .before in
     let small : start .args .n < 2 ^ 64 = omega arith in
-    let at-most = few (made .decimal .result) (start .args .n) small (made .decimal .ensures .1 .0) in
-    (
+    let at-most = few (made .decimal .result) (start .args .n) small (made .decimal .ensures .1 .0) in (
       omega (arith, made .decimal .ensures .0 .1),
       (
         omega arith,
         second .put2 .ensures .1 .1
-        ∙ rw (made .decimal .ensures .1 .1, is-decimal (made .decimal .result) (start .args .n) small (made .decimal .ensures .1 .0), first .put .ensures .1 .1) (append-assoc (take (start .args .at) (start .args .out .now)) (32 ∷ []) (decimal (start .args .n))),
+            ∙ rw (made .decimal .ensures .1 .1, is-decimal (made .decimal .result) (start .args .n) small (made .decimal .ensures .1 .0), first .put .ensures .1 .1) (append-assoc (take (start .args .at) (start .args .out .now)) (32 ∷ []) (decimal (start .args .n))),
       ),
     )
 

@@ -13,11 +13,14 @@ use borrow.Author.Needs.{needs}
 use Rattle.trace.proofs.write.reply_text.Statement.{statement}
 use Rattle.trace.proofs.write.reply_text.Tie as tie
 
--- the replies that are printed as nothing, by the numbers of their cases
-silent : (r : Reply) → OneOf (2 ∷ 3 ∷ 4 ∷ 5 ∷ 6 ∷ 7 ∷ 8 ∷ 9 ∷ []) (tagOf the-type r) → [] ≡ replyText r
+-- the cases of a reply but the first two, by their numbers: what is printed of them is nothing
+abbrev others : List ℕ
+others = 2 ∷ 3 ∷ 4 ∷ 5 ∷ 6 ∷ 7 ∷ 8 ∷ 9 ∷ []
+
+silent : (r : Reply) → OneOf others (tagOf the-type r) → [] ≡ replyText r
 unfolding replyText
-silent (piece t o n b) w = absurd (miss (2 ∷ 3 ∷ 4 ∷ 5 ∷ 6 ∷ 7 ∷ 8 ∷ 9 ∷ []) 0 tt w)
-silent (turnedAway f) w = absurd (miss (2 ∷ 3 ∷ 4 ∷ 5 ∷ 6 ∷ 7 ∷ 8 ∷ 9 ∷ []) 1 tt w)
+silent (piece t o n b) w = absurd (miss others 0 tt w)
+silent (turnedAway f) w = absurd (miss others 1 tt w)
 silent (Rejected g o e b) w = refl
 silent (Done t) w = refl
 silent (Flush t n) w = refl
