@@ -1,6 +1,6 @@
 -- The tests that the code makes of a submission's fields are those of the definition: a field that is no number counts as 0, but then the test that it is
 -- one has failed already.
-use mathlib.Core.Path.{_≡_, refl, ap}
+use mathlib.Core.Path.{_≡_, refl, sym, ap, _∙_}
 use mathlib.Core.List.{List}
 use mathlib.Core.Bool.{Bool, true, false, _&&_}
 use Prim.Native.Nat.{ℕ}
@@ -8,6 +8,7 @@ use lib.ListN.{length}
 use lib.Dec.{leb, eqb}
 use Rattle.layout.specs.Pick.{pick}
 use Rattle.layout.proofs.Tests.{and-left, and-right}
+use Rattle.trace.specs.declared.Field.{Field}
 use Rattle.trace.specs.Trace.{spaces, field, value, isNumber, numberIn, isSubmission, submissionIn}
 
 -- the flag is tested where it is a number
@@ -52,3 +53,16 @@ module _ (cs : List ℕ) where
         and-left (isNumber (field 4 cs)) _ t4,
         and-left (isNumber (field 5 cs)) _ t5,
       )
+
+-- the code's tests, one inside the other
+module _ (cs : List ℕ) {count first : ℕ} {b p l d t : Field} {r1 r2 r3 r4 r5 r6 r7 : Bool}
+    (counted : count ≡ spaces cs) (letter : first ≡ length (field 0 cs))
+    (nb : b ≡ numberIn (field 1 cs)) (np : p ≡ numberIn (field 2 cs)) (nl : l ≡ numberIn (field 3 cs)) (nd : d ≡ numberIn (field 4 cs)) (nt : t ≡ numberIn (field 5 cs))
+    (e1 : r1 ≡ (t .is && leb (d .value) 1)) (e2 : r2 ≡ (d .is && r1)) (e3 : r3 ≡ (l .is && r2)) (e4 : r4 ≡ (p .is && r3)) (e5 : r5 ≡ (b .is && r4))
+    (e6 : r6 ≡ (eqb first 1 && r5)) (e7 : r7 ≡ (eqb count 5 && r6)) where
+  told : r7 ≡ isSubmission cs
+  told = cc (submission-is cs)
+
+  pub submitted : (r7 ≡ isSubmission cs)
+      × (r7 ≡ true → record { buffer = b .value; position = p .value; length = l .value; durable = eqb (d .value) 1; tag = t .value } ≡ submissionIn cs)
+  submitted = (told, λ is. cc (submission-fields cs (sym told ∙ is)))

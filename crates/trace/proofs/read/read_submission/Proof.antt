@@ -1,5 +1,5 @@
 -- `trace::read_submission` meets its contract: its tests, one inside the other, are those of the definition (`Submissions`).
-use Rattle.trace.proofs.Submissions.{submission-is, submission-fields}
+use Rattle.trace.proofs.Submissions.{submitted}
 use borrow.Author.Needs.{needs}
 use Rattle.trace.proofs.read.read_submission.Statement.{statement}
 use Rattle.trace.proofs.read.read_submission.Tie as tie
@@ -48,8 +48,28 @@ both-requires-7 c κs = search needs
 
 returns : tie.Need-returns
 returns c =
-    let text = c .before .before .before .before .before .before .before .before .before .before .before .before .before .before .before .before .before .args .text .now in
-    (cc (submission-is text), λ t. cc (submission-fields text (cc (submission-is text))))
+    let c7 = c .before in
+    let c6 = c7 .before .before in
+    let c5 = c6 .before .before in
+    let c2 = c5 .before .before .before in
+    let n5 = c2 .before .before .before in
+    let n3 = n5 .before .before in
+    submitted
+    (n3 .before .before .before .before .args .text .now)
+    (c7 .before .count-spaces .ensures)
+    (c6 .before .first-length .ensures)
+    (n3 .before .before .number-in .ensures)
+    (n3 .before .number-in2 .ensures)
+    (n3 .number-in3 .ensures)
+    (n5 .before .number-in4 .ensures)
+    (n5 .number-in5 .ensures)
+    (c2 .before .both .ensures)
+    (c2 .both2 .ensures)
+    (c5 .before .before .both3 .ensures)
+    (c5 .before .both4 .ensures)
+    (c5 .both5 .ensures)
+    (c6 .both6 .ensures)
+    (c7 .both7 .ensures)
 
 pub read-submission-spec : {M : Type 1} → statement M
 read-submission-spec =
