@@ -42,7 +42,7 @@ spelled-up-to (suc m) (suc (suc k)) n h f =
     rw (le-ltb n 10 (ten-up n k f), last n, spelled-up-to m (suc k) (n / 10) (omega arith) (front n k f))
 
 -- a number of 64 bits has at most 20 digits
-module _ (k n : ℕ) (small : n < 2 ^ 64) (f : Fewest 10 1 n k) where
+module _ (k n : ℕ) (f : Fewest 10 1 n k) (small : n < 2 ^ 64) where
   pub few : k ≤ 20
   few =
       let below : k < 21 =

@@ -147,7 +147,7 @@ fn read_submission(text: &[u8]) -> Submitted
 fn first_byte(text: &[u8]) -> u8
     ensures { λ r. ⌜ r ≡ getD (now (text .entry)) 0 0 ⌝ }
 {
-    if text.len() == 0 {
+    if text.len() < 1 {
         return 0;
     }
     text[0]

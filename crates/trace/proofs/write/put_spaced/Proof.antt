@@ -1,7 +1,6 @@
 -- `trace::put_spaced` meets its contract: the digits that `io::decimal` makes are the number's, at most 20 of them (`Decimal`), and stand behind the space.
 use mathlib.Core.Path.{_∙_}
 use mathlib.Core.List.{[], _∷_, append-assoc}
-use Prim.Native.Nat.{_^_, _<_}
 use native.Mathlib.Omega.{arith}
 use lib.ListN.{take}
 use borrow.Author.Needs.{needs}
@@ -28,8 +27,7 @@ slice-aggregate-put-2 c = search needs
 put-requires-2 : tie.Need-put-requires-2
 put-requires-2 c κs =
     let made = c .before .before .before .before .before .before .before in
-    let start = made .before .before .before in
-    let at-most = few (made .decimal .result) (start .args .n) (omega arith) (made .decimal .ensures .1 .0) in omega (arith, made .decimal .ensures .0 .1)
+    let at-most = few (made .decimal .result) _ (made .decimal .ensures .1 .0) (omega arith) in omega (arith, made .decimal .ensures .0 .1)
 
 same-length : tie.Need-same-length
 same-length c = search needs
@@ -41,13 +39,15 @@ returns c =
     let first = second .before .before .before .before .before in
     let made = first .before .before .before in
     let start = made .before .before .before in
-    let small : start .args .n < 2 ^ 64 = omega arith in
-    let at-most = few (made .decimal .result) (start .args .n) small (made .decimal .ensures .1 .0) in (
+    let at-most = few (made .decimal .result) _ (made .decimal .ensures .1 .0) (omega arith) in
+    let spelled = is-decimal (made .decimal .result) (start .args .n) (made .decimal .ensures .1 .0) (omega arith) in
+    (
       omega (arith, made .decimal .ensures .0 .1),
       (
         omega arith,
         second .put2 .ensures .1 .1
-            ∙ rw (made .decimal .ensures .1 .1, is-decimal (made .decimal .result) (start .args .n) small (made .decimal .ensures .1 .0), first .put .ensures .1 .1) (append-assoc (take (start .args .at) (start .args .out .now)) (32 ∷ []) (decimal (start .args .n))),
+        ∙ rw (made .decimal .ensures .1 .1, spelled, first .put .ensures .1 .1)
+        (append-assoc (take (start .args .at) (start .args .out .now)) (32 ∷ []) (decimal (start .args .n))),
       ),
     )
 
