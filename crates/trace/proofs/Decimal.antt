@@ -17,7 +17,7 @@ down : (k : ℕ) → suc k - 1 ≡ k
 down k = omega arith
 
 module _ (n k : ℕ) (f : Fewest 10 1 n (suc (suc k))) where
-  -- a number of two digits or more is at least a ten to the power of all but one
+  -- a number of k + 2 digits is at least 10^(k+1), so no single digit
   least : 10 ^ k * 10 ≤ n
   least = rw (down (suc k), pow-suc 10 k) at (f .2 (omega arith))
 
@@ -32,7 +32,7 @@ module _ (n k : ℕ) (f : Fewest 10 1 n (suc (suc k))) where
     λ more. rw (down k) (le-div-iff-mul-le {k = 10} (omega arith) .1 least),
   )
 
-pub spelled-up-to : (m k n : ℕ) → k ≤ m → Fewest 10 1 n k → digits 10 k n ≡ decimalUpTo m n
+spelled-up-to : (m k n : ℕ) → k ≤ m → Fewest 10 1 n k → digits 10 k n ≡ decimalUpTo m n
 unfolding decimalUpTo pick
 spelled-up-to m zero n h f = absurd (omega arith)
 spelled-up-to zero (suc k) n h f = absurd (omega arith)
@@ -43,13 +43,13 @@ spelled-up-to (suc m) (suc (suc k)) n h f =
 
 -- a number of 64 bits has at most 20 digits
 module _ (k n : ℕ) (f : Fewest 10 1 n k) (small : n < 2 ^ 64) where
-  pub few : k ≤ 20
-  few =
-      let below : k < 21 =
-      lt-of-not-le (λ (h : 21 ≤ k).
+  too-many : 21 ≤ k → ⊥
+  too-many h =
       let tens : 10 ^ 20 ≤ 10 ^ (k - 1) = pow-le-pow-right {n = 10} (omega arith) {i = 20} {j = k - 1} (omega arith) in
-      let held : 10 ^ (k - 1) ≤ n = f .2 (omega arith) in omega arith)
-      in omega arith
+      let held : 10 ^ (k - 1) ≤ n = f .2 (omega arith) in omega arith
+
+  pub few : k ≤ 20
+  few = let below : k < 21 = lt-of-not-le too-many in omega arith
 
   pub is-decimal : digits 10 k n ≡ decimal n
   unfolding decimal

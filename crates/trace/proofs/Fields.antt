@@ -18,7 +18,7 @@ pub from-on : (l : List ℕ) (i : ℕ) → i < length l → drop i l ≡ getD l 
 from-on l i h = rw add-one (drop-cons l i 0 h)
 
 -- a field of nothing is nothing
-pub field-none : (k : ℕ) → field k [] ≡ []
+field-none : (k : ℕ) → field k [] ≡ []
 unfolding field
 field-none zero = refl
 field-none (suc k) = refl
@@ -31,16 +31,7 @@ pub spaces-past : (l : List ℕ) (i : ℕ) → length l ≤ i → spaces (drop i
 unfolding spaces
 spaces-past l i h = rw (drop-of-length-le l {i = i} h)
 
--- a field's length is at most its text's, and it is that many of the text's first bytes
-pub field-short : (l : List ℕ) → length (field 0 l) ≤ length l
-unfolding field pick
-field-short [] = omega arith
-field-short (c ∷ cs) = by-space (eqb c 32) (field-short cs)
-  where
-    by-space : (t : Bool) → length (field 0 cs) ≤ length cs → length (pick t [] (c ∷ field 0 cs)) ≤ suc (length cs)
-    by-space true h = omega arith
-    by-space false h = omega arith
-
+-- a field is as many of the text's first bytes as it is long
 pub field-front : (l : List ℕ) → take (length (field 0 l)) l ≡ field 0 l
 unfolding field pick
 field-front [] = refl

@@ -18,7 +18,7 @@ flag true more v = refl
 flag false more v = refl
 
 module _ (cs : List ℕ) where
-  pub submission-is :
+  submission-is :
       (eqb (spaces cs) 5
       && (eqb (length (field 0 cs)) 1
       && (numberIn (field 1 cs) .is
@@ -30,7 +30,7 @@ module _ (cs : List ℕ) where
       ap (λ (t : Bool). eqb (spaces cs) 5 && (eqb (length (field 0 cs)) 1 && (isNumber (field 1 cs) && (isNumber (field 2 cs) && (isNumber (field 3 cs) && t)))))
       (flag (isNumber (field 4 cs)) (isNumber (field 5 cs)) (value 0 (field 4 cs)))
 
-  pub submission-fields : isSubmission cs ≡ true
+  submission-fields : isSubmission cs ≡ true
       → record {
         buffer = numberIn (field 1 cs) .value;
         position = numberIn (field 2 cs) .value;

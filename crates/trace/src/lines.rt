@@ -19,7 +19,7 @@ pub fn start() -> Reader
     }
 }
 
-// Stores a byte at a place that a line has.
+// Stores a byte at a place that a line has, which the caller is told again: of an array lent to it the caller knows the length only at the call.
 fn keep(line: &mut [u8], at: usize, b: u8)
     requires { ⌜ at < length (now line) ⌝ }
     ensures { λ _. ⌜ (at < length (now (line .entry))) × (now (line .exit) ≡ set (now (line .entry)) at b) ⌝ }

@@ -33,7 +33,6 @@ returns-3 c =
     let head = c .before .before .before in
     let text = head .before .before .before .args .text .now in
     let i = head .loop .i in
-    let n = head .loop .n in
     no-number text (λ s. not-both (s .digits) (head .loop .inv .3 ∙ digits-below text i (omega arith) (omega arith)))
 
 returns-4 : tie.Need-returns-4 Inv-loop μ-loop
@@ -41,7 +40,6 @@ returns-4 c =
     let head = c .before .before .before .before in
     let text = head .before .before .before .args .text .now in
     let i = head .loop .i in
-    let n = head .loop .n in
     no-number text (λ s. not-both (s .digits) (head .loop .inv .3 ∙ digits-above text i (omega arith) (omega arith)))
 
 cast-d : tie.Need-cast-d Inv-loop μ-loop

@@ -40,14 +40,13 @@ returns c =
     let made = first .before .before .before in
     let start = made .before .before .before in
     let at-most = few (made .decimal .result) _ (made .decimal .ensures .1 .0) (omega arith) in
-    let spelled = is-decimal (made .decimal .result) (start .args .n) (made .decimal .ensures .1 .0) (omega arith) in
-    (
+    let spelled = is-decimal (made .decimal .result) (start .args .n) (made .decimal .ensures .1 .0) (omega arith) in (
       omega (arith, made .decimal .ensures .0 .1),
       (
         omega arith,
         second .put2 .ensures .1 .1
-        ∙ rw (made .decimal .ensures .1 .1, spelled, first .put .ensures .1 .1)
-        (append-assoc (take (start .args .at) (start .args .out .now)) (32 ∷ []) (decimal (start .args .n))),
+            ∙ rw (made .decimal .ensures .1 .1, spelled, first .put .ensures .1 .1)
+            (append-assoc (take (start .args .at) (start .args .out .now)) (32 ∷ []) (decimal (start .args .n))),
       ),
     )
 
