@@ -8,7 +8,7 @@ use native.Mathlib.Omega.{arith}
 use Rattle.completion.specs.declared.Reply.{Reply}
 use Rattle.completion.proofs.Reply.{the-type}
 use Rattle.completion.specs.declared.Reply.the-variants.{Piece as piece, No as turnedAway, Rejected, Done, Flush, Took, None, Ok, Writes, Mark}
-use Rattle.trace.specs.Trace.{noWord, replyText}
+use Rattle.trace.specs.Trace.{replyText}
 use borrow.Author.Needs.{needs}
 use Rattle.trace.proofs.write.reply_text.Statement.{statement}
 use Rattle.trace.proofs.write.reply_text.Tie as tie
@@ -39,14 +39,8 @@ piece-text-requires c κs = search needs
 enum-known-reply-2 : tie.Need-enum-known-reply-2
 enum-known-reply-2 c = search needs
 
-slice-aggregate-numbered-text : tie.Need-slice-aggregate-numbered-text
-slice-aggregate-numbered-text c = search needs
-
-number-of-requires : tie.Need-number-of-requires
-number-of-requires c κs = search needs
-
-numbered-text-requires : tie.Need-numbered-text-requires
-numbered-text-requires c κs = search needs
+no-text-requires : tie.Need-no-text-requires
+no-text-requires c κs = search needs
 
 returns : tie.Need-returns
 unfolding replyText
@@ -54,9 +48,9 @@ returns c =
     (c .piece-text .ensures .0, c .piece-text .ensures .1 ∙ rw (c .before .before .before .reply .given .1))
 
 returns-2 : tie.Need-returns-2
-unfolding replyText noWord
+unfolding replyText
 returns-2 c =
-    (c .numbered-text .ensures .0, c .numbered-text .ensures .1 ∙ rw (c .before .before .before .before .before .reply2 .given .1, c .before .before .number-of .ensures))
+    (c .no-text .ensures .0, c .no-text .ensures .1 ∙ rw (c .before .before .before .reply2 .given .1))
 
 returns-3 : tie.Need-returns-3
 returns-3 c = (omega arith, silent (c .before .args .reply) (c .match .keys3))
@@ -68,9 +62,7 @@ reply-text-spec =
     enum-known-reply
     piece-text-requires
     enum-known-reply-2
-    slice-aggregate-numbered-text
-    number-of-requires
-    numbered-text-requires
+    no-text-requires
     returns
     returns-2
     returns-3)
