@@ -3,7 +3,7 @@
 -- however long. A line of another form .., a number over 2^64 − 1, or a line of more than 4,096 bytes prints `bad` and its number in the file,
 -- from 1, and changes nothing". "Flags are 0 or 1."
 use mathlib.Core.Path.{_≡_}
-use mathlib.Core.Bool.{Bool, true, false, _&&_}
+use mathlib.Core.Bool.{Bool, true, _&&_}
 use mathlib.Core.List.{List, [], _∷_, _++_}
 use Prim.Native.Nat.{ℕ, zero, suc, _+_, _-_, _*_, _/_, _%_, _^_, min}
 use lib.ListN.{length, getD, take}

@@ -2,8 +2,9 @@
 // however long." The first 4,096 bytes are kept, and whether there are more.
 ghost use mathlib.Core.Path.{_≡_};
 ghost use mathlib.Core.List.{List, [], _∷_, _++_};
-ghost use Prim.Native.Nat.{ℕ};
-ghost use Rattle.trace.specs.Trace.{Kept, lineRead};
+ghost use Prim.Native.Nat.{ℕ, _≤_, _<_};
+ghost use lib.ListN.{length, take, set};
+ghost use Rattle.trace.specs.Trace.{Kept, lineIn, lineRead};
 use crate::Line;
 use crate::Reader;
 use crate::read_line;
@@ -18,21 +19,38 @@ pub fn start() -> Reader
     }
 }
 
+// Stores a byte at a place that a line has, which the caller is told again: of an array lent to it the caller knows the length only at the call.
+fn keep(line: &mut [u8], at: usize, b: u8)
+    requires { ⌜ at < length (now line) ⌝ }
+    ensures { λ _. ⌜ (at < length (now (line .entry))) × (now (line .exit) ≡ set (now (line .entry)) at b) ⌝ }
+{
+    line[at] = b;
+}
+
 // One byte more.
 pub fn feed(r: Reader, line: &mut [u8; 4096], b: u8) -> Reader
     ensures { λ r′. ⌜ ((bytes : List ℕ) → Kept r (now (line .entry)) bytes → Kept r′ (now (line .exit)) (bytes ++ (b ∷ []))) ⌝ }
 {
-    if 4096 <= r.kept {
+    let at = r.kept;
+    if 4096 <= at {
         return Reader {
-            kept: r.kept,
+            kept: at,
             long: true,
         };
     }
-    line[r.kept] = b;
+    keep(line, at, b);
     Reader {
-        kept: r.kept + 1,
+        kept: at + 1,
         long: r.long,
     }
+}
+
+// What the first bytes of a line say.
+fn read_front(line: &[u8], kept: usize) -> Line
+    requires { ⌜ kept ≤ length (now line) ⌝ }
+    ensures { λ l. ⌜ l ≡ lineIn (take kept (now (line .entry))) ⌝ }
+{
+    read_line(&line[..kept])
 }
 
 // What the line says, once all its bytes are there.
@@ -48,5 +66,5 @@ pub fn finish(r: Reader, line: &[u8; 4096]) -> Line
     if 4096 < r.kept {
         return Line::Bad;
     }
-    read_line(&line[..r.kept])
+    read_front(line, r.kept)
 }

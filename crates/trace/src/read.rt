@@ -1,8 +1,8 @@
 // A line is read: its fields stand between single spaces.
 ghost use mathlib.Core.Path.{_≡_};
 ghost use mathlib.Core.Bool.{true, _&&_};
-ghost use Prim.Native.Nat.{_-_, _≤_};
-ghost use lib.ListN.{length, take, drop};
+ghost use Prim.Native.Nat.{_+_, _≤_};
+ghost use lib.ListN.{length, getD, drop};
 ghost use Rattle.trace.specs.Trace.{spaces, field, numberIn, isSubmission, submissionIn, lineIn};
 use crate::Field;
 use crate::Line;
@@ -44,7 +44,7 @@ fn field_start(text: &[u8], k: usize) -> usize
 // Where the field that begins at `from` ends.
 fn field_end(text: &[u8], from: usize) -> usize
     requires { ⌜ from ≤ length (now text) ⌝ }
-    ensures { λ r. ⌜ (from ≤ r) × ((r ≤ length (now (text .entry))) × (field 0 (drop from (now (text .entry))) ≡ take (r - from) (drop from (now (text .entry))))) ⌝ }
+    ensures { λ r. ⌜ (r ≤ length (now (text .entry))) × (r ≡ from + length (field 0 (drop from (now (text .entry))))) ⌝ }
 {
     let mut i = from;
     while i < text.len() {
@@ -143,11 +143,21 @@ fn read_submission(text: &[u8]) -> Submitted
     }
 }
 
+// The first byte of a line; 0 where it has none.
+fn first_byte(text: &[u8]) -> u8
+    ensures { λ r. ⌜ r ≡ getD (now (text .entry)) 0 0 ⌝ }
+{
+    if text.len() < 1 {
+        return 0;
+    }
+    text[0]
+}
+
 // What a line says.
 pub fn read_line(text: &[u8]) -> Line
     ensures { λ r. ⌜ r ≡ lineIn (now (text .entry)) ⌝ }
 {
-    let first = if text.len() == 0 { 0 } else { text[0] };
+    let first = first_byte(text);
     if first == 35 {
         return Line::Comment;
     }
@@ -155,9 +165,10 @@ pub fn read_line(text: &[u8]) -> Line
     if !s.is {
         return Line::Bad;
     }
+    let fields = s.fields;
     match first {
-        119 => Line::Write(s.fields),
-        114 => Line::Read(s.fields),
+        119 => Line::Write(fields),
+        114 => Line::Read(fields),
         _ => Line::Bad,
     }
 }

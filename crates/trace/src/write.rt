@@ -4,7 +4,7 @@ ghost use mathlib.Core.List.{_++_};
 ghost use Prim.Native.Nat.{_+_, _≤_};
 ghost use lib.ListN.{length, take};
 ghost use Rattle.completion.specs.Numbers.{number};
-ghost use Rattle.trace.specs.Trace.{spaced, pieceText, numbered, replyText, badText};
+ghost use Rattle.trace.specs.Trace.{spaced, noWord, pieceText, numbered, replyText, badText};
 use completion::Refusal;
 use completion::Reply;
 
@@ -85,6 +85,14 @@ pub fn bad_text(n: u64, out: &mut [u8; 128]) -> usize
     numbered_text(b"bad", n, out)
 }
 
+// `no` and the refusal's number
+fn no_text(refusal: Refusal, out: &mut [u8]) -> usize
+    requires { ⌜ 128 ≤ length (now out) ⌝ }
+    ensures { λ r. ⌜ (r ≤ 128) × (take r (now (out .exit)) ≡ numbered noWord (number refusal)) ⌝ }
+{
+    numbered_text(b"no", number_of(refusal), out)
+}
+
 // What optrun prints of a reply.
 pub fn reply_text(reply: Reply, out: &mut [u8; 128]) -> usize
     ensures { λ r. ⌜ (r ≤ 128) × (take r (now (out .exit)) ≡ replyText reply) ⌝ }
@@ -96,7 +104,7 @@ pub fn reply_text(reply: Reply, out: &mut [u8; 128]) -> usize
             count,
             buffer: _,
         } => piece_text(qtag, offset.0, count, out),
-        Reply::No(refusal) => numbered_text(b"no", number_of(refusal), out),
+        Reply::No(refusal) => no_text(refusal, out),
         _ => 0,
     }
 }
