@@ -1,3 +1,6 @@
 -- What the proofs of the host's calls share.
+pub mod Calling
 pub mod Opening
+pub mod Passing
+pub mod Slices
 pub mod Values

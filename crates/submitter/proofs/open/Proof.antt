@@ -27,7 +27,7 @@ use denote.Laws.{Is, shows}
 use denote.Plain.{Nothing, nothing-lawful, uint-makes, uint-lawful}
 use denote.Builtin.{usize, u64, u8}
 use denote.Ref.{RefT}
-use denote.Slice.{sliceVal, MutSlice, ShrSlice, Room, finally, slice-vals, mut-slice-tells, shr-slice-tells}
+use denote.Slice.{MutSlice, ShrSlice, Room, finally, slice-vals, mut-slice-tells, shr-slice-tells}
 use denote.Signature.{plain, shrSliceOf}
 use denote.Steps.{only, owned, peeks, heard, nothing}
 use denote.Exit.{yes}
@@ -54,6 +54,7 @@ use Rattle.optable.proofs.new.Met as new-thm
 use Rattle.submitter.specs.declared.Opened.{Opened}
 use Rattle.submitter.specs.Open.{openedWith}
 use Rattle.submitter.proofs.Opening.{opens-to}
+use Rattle.submitter.proofs.Slices.{Words, count}
 use Rattle.submitter.proofs.Values.{Opening-row, Opened-row, val, vals, tells, opening-typed, opened-typed}
 use Rattle.submitter.proofs.reply as reply
 use Rattle.submitter.proofs.reply.Symbol as reply-def
@@ -64,10 +65,7 @@ use Rattle.submitter.proofs.open as self
 use Rattle.submitter.proofs.open.Statement as stated
 use Rattle.submitter.proofs.open.Code as code
 
--- the parameters, a list of numbers behind each slice
-abbrev Words : Type 0
-Words = RefT (List ℕ)
-
+-- the parameters
 abbrev Arg : Type 0
 Arg = Opening × (Words × (RefT (List Row) × (Words × (Words × (Words × (Words × (Words × Unit {0})))))))
 
@@ -101,10 +99,6 @@ module _ {M : Type 1} (𝓤 : URA M) (H : Heap 𝓤) (A : Atoms 𝓤) (mem : Mem
   -- of the last, the clause alone: it has no `&mut`
   reply-of : (d : ℕ) (r : Opened) → ent 𝓤 (ensured 𝓤 H A reply.ended (reply.clauses 𝓤 H A mem run) tt (d, tt) tt r) (fact 𝓤 (r ≡ openedWith d))
   reply-of d r = exE 𝓤 _ (λ ws. snd∗ 𝓤 (sem 𝓤 H A (lasts reply.ended tt (d, tt) ws)) (fact 𝓤 (r ≡ openedWith d)))
-
--- a slice's machine value
-abbrev count : {A : Type 0} → RefT (List A) → Val
-count x = sliceVal (x .ptr) (length (x .now))
 
 -- each slice's bytes fit the memory
 record Rooms (p : Words) (x : RefT (List Row)) (s f r w b : Words) : Type 0 where
