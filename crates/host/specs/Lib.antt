@@ -1,0 +1,1 @@
+-- This crate states nothing of its own: its contracts cite the submitter's.
