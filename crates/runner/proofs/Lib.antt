@@ -1,0 +1,1 @@
+-- Proofs about the functions of src/.
