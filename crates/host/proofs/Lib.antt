@@ -1,1 +1,2 @@
--- Proofs about the functions of src/.
+-- What the proofs of this crate's two functions share.
+pub mod Lending
