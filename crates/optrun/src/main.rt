@@ -44,7 +44,16 @@ fn answer(
     let said = trace::finish(reader, line);
     let mut out = [0u8; 128];
     let a = runner::answer(
-        said, number, counts, rows, store, free, ready, owners, pool, &mut out,
+        said,
+        number,
+        counts,
+        rows,
+        store,
+        free,
+        ready,
+        owners,
+        pool,
+        &mut out,
     );
     io::write_all(1, &out[..a.printed]);
     let held = a.rows;
@@ -164,14 +173,7 @@ fn main() {
                 reader: trace::start(),
                 number: 0,
             };
-            run(
-                r,
-                &mut store,
-                &mut free,
-                &mut ready,
-                &mut owners,
-                &mut pool,
-            );
+            run(r, &mut store, &mut free, &mut ready, &mut owners, &mut pool);
         }
     }
 }

@@ -27,7 +27,11 @@ pub(crate) fn later(x: u64, k: u64) -> u64 {
 
 // A number from lo to hi, of which hi is below 65,536 and not below lo.
 pub(crate) fn from_to(x: u64, lo: u64, hi: u64) -> u64 {
-    let span = if lo < hi { hi % 65536 - lo % 65536 % (hi % 65536 + 1) } else { 0 };
+    let span = if lo < hi {
+        hi % 65536 - lo % 65536 % (hi % 65536 + 1)
+    } else {
+        0
+    };
     lo % 65536 + x / 65536 % 65536 % (span % 65536 + 1)
 }
 

@@ -15,7 +15,9 @@ use submitter::Opened;
 
 // How many openings there are, how many of them are printed, and how many requests each gets.
 const OPENINGS: u64 = 96;
+
 const PRINTED: u64 = 6;
+
 const REQUESTS: u64 = 64;
 
 // The table, the drawing and what was said so far.
@@ -45,7 +47,11 @@ fn submit(
     if shown {
         said::request(read, q);
     }
-    let call = if read { Call::ReadPage(q) } else { Call::Write(q) };
+    let call = if read {
+        Call::ReadPage(q)
+    } else {
+        Call::Write(q)
+    };
     let c = host::call_in(call, counts, rows, store, free, ready, owners, pool);
     let reply = c.reply;
     let held = c.rows;

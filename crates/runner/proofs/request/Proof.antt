@@ -1,0 +1,12 @@
+-- `runner::request` meets its contract: each field is the definition's.
+use mathlib.Core.Path.{refl}
+use Rattle.runner.specs.Runner.{requestOf}
+use Rattle.runner.proofs.request.Statement.{statement}
+use Rattle.runner.proofs.request.Tie as tie
+
+returns : tie.Need-returns
+unfolding requestOf
+returns c = refl
+
+pub request-spec : {M : Type 1} → statement M
+request-spec = tie.close (tie.spec returns)
