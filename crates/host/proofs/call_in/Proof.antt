@@ -154,7 +154,7 @@ module _ {M : Type 1} (𝓤 : URA M) (H : Heap 𝓤) (A : Atoms 𝓤) (W : Given
 
   begins : ent 𝓤 (onEntry 𝓤 H A self.signature (κ₀, (κ₁, (κ₂, (κ₃, (κ₄, tt))))) (q₀, (q₁, (q₂, (q₃, (q₄, tt))))) a at) (⋆ 𝓤 H A Entry)
   begins =
-      qed W ((Tokens) ∷ ‵ (owns (Call-row ∷ N ∷ Table ∷ MutSlice (named 0) κ₀ u64 ∷ MutSlice (named 1) κ₁ u64 ∷ MutSlice (named 2) κ₂ u64 ∷ MutSlice (named 3) κ₃ u64 ∷ MutSlice (named 4) κ₄ u8 ∷ []) a at) ∷ []) ∵
+      qed W (Tokens ∷ ‵ (owns (Call-row ∷ N ∷ Table ∷ MutSlice (named 0) κ₀ u64 ∷ MutSlice (named 1) κ₁ u64 ∷ MutSlice (named 2) κ₂ u64 ∷ MutSlice (named 3) κ₃ u64 ∷ MutSlice (named 4) κ₄ u8 ∷ []) a at) ∷ []) ∵
       split ! $ move ! (1 ∷ []) $ split ! $ move ! (1 ∷ []) $ split ! $ move ! (1 ∷ []) $ split ! $ move ! (1 ∷ []) $ split ! $
       -- [κ₄; true; κ₃; κ₂; κ₁; κ₀; what the parameters own]
       move ! (6 ∷ []) $ fsplit ! $ move ! (1 ∷ []) $ fsplit ! $ move ! (1 ∷ []) $ fsplit ! $ move ! (1 ∷ []) $ fsplit ! $ move ! (1 ∷ []) $ fsplit ! $ move ! (1 ∷ []) $ fsplit ! $ move ! (1 ∷ []) $ fsplit ! $ move ! (1 ∷ []) $ fsplit ! $
