@@ -8,6 +8,7 @@ pub use lines::finish;
 pub use lines::start;
 pub use read::read_line;
 pub use write::bad_text;
+pub use write::number_of;
 pub use write::reply_text;
 
 // What a field holds: whether it is a number, and which (0 where it is none).

@@ -1,0 +1,152 @@
+// optrun: document 01's opening and a flush count of 0. It reads lines from standard input and answers each: `piece QTAG OFFSET COUNT`, `no` and the
+// number, or `bad` and the line's number. What a line says, what is called and what is printed stand in the crates trace and runner; here the input
+// is cut at LF and the lines are counted.
+mod input;
+
+use input::Input;
+use model::Counts;
+use model::Row;
+use runner::Answered;
+use submitter::Opened;
+use trace::Line;
+
+// The one region of the figures: id, generation, first offset, capacity, data length, one further run.
+fn plan() -> [u64; 70] {
+    let mut p = [0u64; 70];
+    p[0] = 7;
+    p[1] = 3;
+    p[2] = 1024;
+    p[3] = 2048;
+    p[4] = 2048;
+    p[5] = 1;
+    p[6] = 1024;
+    p[7] = 8192;
+    p
+}
+
+// A line is answered, and the answer printed.
+fn answer(
+    said: Line,
+    number: u64,
+    counts: Counts,
+    rows: [Row; 64],
+    store: &mut [u64],
+    free: &mut [u64],
+    ready: &mut [u64],
+    owners: &mut [u64],
+    pool: &mut [u8],
+) -> Answered {
+    let mut out = [0u8; 128];
+    let a = runner::answer(
+        said,
+        number,
+        counts,
+        rows,
+        store,
+        free,
+        ready,
+        owners,
+        pool,
+        &mut out,
+    );
+    input::print_line(&out, a.printed);
+    a
+}
+
+// The table's rows and counts, and where the input stands.
+struct Running {
+    rows: [Row; 64],
+    counts: Counts,
+    from: Input,
+}
+
+// Goes on in the input, and answers the line if it is complete.
+fn turn(
+    r: Running,
+    line: &mut [u8; 4096],
+    chunk: &mut [u8; 4096],
+    store: &mut [u64],
+    free: &mut [u64],
+    ready: &mut [u64],
+    owners: &mut [u64],
+    pool: &mut [u8],
+) -> Running {
+    let was = r.from;
+    let rows = r.rows;
+    let counts = r.counts;
+    let from = input::next(was, line, chunk);
+    let said = input::said(from, line);
+    let a = answer(
+        said,
+        from.number,
+        counts,
+        rows,
+        store,
+        free,
+        ready,
+        owners,
+        pool,
+    );
+    let held = a.rows;
+    let counted = a.counts;
+    Running {
+        rows: held,
+        counts: counted,
+        from,
+    }
+}
+
+// Reads lines until the input ends, and answers each. A loop has to end: it counts its turns down, from a number that no run uses up.
+fn run(
+    r: Running,
+    store: &mut [u64],
+    free: &mut [u64],
+    ready: &mut [u64],
+    owners: &mut [u64],
+    pool: &mut [u8],
+) {
+    let mut line = io::buffer();
+    let mut chunk = io::buffer();
+    let mut now = r;
+    let mut turns = u64::MAX;
+    while turns > 0 {
+        let from = now.from;
+        if from.ended {
+            return;
+        }
+        now = turn(now, &mut line, &mut chunk, store, free, ready, owners, pool);
+        turns -= 1;
+    }
+}
+
+fn main() {
+    let mut store = [0u64; 118];
+    let mut free = [0u64; 2];
+    let mut ready = [0u64; 33];
+    let mut owners = [0u64; 3];
+    let mut pool = [0u8; 6144];
+    let plan = plan();
+    let rows = [optable::freed_row(0); 64];
+    let opened = host::open_in(
+        runner::figures(),
+        &plan,
+        rows,
+        &mut store,
+        &mut free,
+        &mut ready,
+        &mut owners,
+        &pool,
+    );
+    let held = opened.rows;
+    let table = opened.opened;
+    let Opened::Table(counts) = table else {
+        io::write_all(1, b"no 13\n");
+        return;
+    };
+    let r = Running {
+        rows: held,
+        counts,
+        from: input::begin(),
+    };
+    run(r, &mut store, &mut free, &mut ready, &mut owners, &mut pool);
+}
