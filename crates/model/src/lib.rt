@@ -2,6 +2,9 @@
 // Kind, Split, Table and Inner). The state, the calls and what they do are definitions in specs/; the crates above run them.
 use completion::Refusal;
 use completion::WriteTicket;
+use domain::FirstCause;
+use platform::Answer;
+use platform::Flushed;
 use regionmap::FoundPiece;
 use regionmap::Position;
 
@@ -89,10 +92,43 @@ pub struct Request {
     pub tag: u64,
 }
 
-// What a host calls, once a table is open.
+// What a host calls, once a table is open; the lookups are apart, as they change nothing.
 pub enum Call {
     Write(Request),
     ReadPage(Request),
+    // "An answer arrives": its form, whether the buffer came back, and "The host passes its flush count".
+    Answer {
+        qtag: u64,
+        answer: Answer,
+        back: bool,
+        flushes: u64,
+    },
+    Flushed {
+        qtag: u64,
+        result: Flushed,
+    },
+    Take,
+    // "set a region's gate, read-only or forced mark"
+    SetGate {
+        handle: u64,
+        gate: Gate,
+    },
+    SetReadOnly {
+        handle: u64,
+        on: bool,
+    },
+    SetForced {
+        handle: u64,
+        on: bool,
+    },
+    // "report poison with a cause"
+    ReportPoison(FirstCause),
+}
+
+// "lookups: whether a write still awaits a piece; the mark"
+pub enum Lookup {
+    WritesLive,
+    Mark,
 }
 
 // How a question, or several in their order, are answered: yes to all, or the first no.

@@ -26,7 +26,8 @@ use Rattle.model.specs.declared.Call.{Call}
 use Rattle.model.specs.declared.Call.the-variants.{Write, ReadPage}
 use Rattle.model.specs.State.{State}
 use Rattle.model.specs.Opening.{opened}
-use Rattle.step.specs.Step.{startOf, endOf, begun, pieceOf, verdictOf, writeVerdict, readVerdict, submitted, eqLengths, called, step}
+use Rattle.step.specs.Rules.{pieceOf}
+use Rattle.step.specs.Step.{startOf, endOf, begun, verdictOf, writeVerdict, readVerdict, submitted, eqLengths, called, step}
 use Rattle.step.specs.Sound.{rangeStart, rangeEnd, SplitFits, Sound}
 use Rattle.step.specs.Laws.{onCard, stepped, issuedUpTo, StepLaws}
 use Rattle.step.proofs.Numbers.{write-numbers, read-numbers}

@@ -15,6 +15,7 @@ use Rattle.regionmap.specs.Words.{offsetOf}
 use Rattle.transfer.specs.Transfer.{CardAndPool, Operation, wrote, readIn, whole, OneWrite, OneRead}
 use Rattle.completion.specs.declared.Refusal.{Refusal}
 use Rattle.completion.specs.declared.Refusal.the-variants.{Unfit}
+use Rattle.completion.specs.declared.Reply.{Reply}
 use Rattle.completion.specs.declared.Reply.the-variants.{No as turnedAway}
 use Rattle.completion.specs.Numbers.{number}
 use Rattle.model.specs.declared.Opening.{Opening}
@@ -22,29 +23,44 @@ use Rattle.model.specs.declared.Lengths.{Lengths}
 use Rattle.model.specs.declared.Split.{Split}
 use Rattle.model.specs.declared.Request.{Request}
 use Rattle.model.specs.declared.Call.{Call}
+use Rattle.model.specs.declared.Lookup.{Lookup}
 use Rattle.model.specs.declared.Asked.{Asked}
 use Rattle.model.specs.declared.Asked.the-variants.{Yes, No}
 use Rattle.model.specs.State.{State, Region}
 use Rattle.model.specs.Opening.{among, opened}
 use Rattle.model.specs.Memory.{plansIn, opens}
 use Rattle.step.specs.Questions.{regionAt, firstNo, writeQuestions, readQuestions}
-use Rattle.step.specs.Step.{step, eqLengths, pieceOf, begun}
+use Rattle.step.specs.Rules.{pieceOf}
+use Rattle.step.specs.Step.{step, look, eqLengths, begun}
 use Rattle.step.specs.Sound.{Sound}
 
 -- ---- histories
 
--- the host leaves the pool in some way, then calls, lending parts of some lengths
+-- what a host makes: a call, or a lookup
+pub data Made : Type 0 where
+  calls : Call → Made
+  looks : Lookup → Made
+
+-- the host leaves the pool in some way, then makes a call or a lookup, lending parts of some lengths
 pub record Event : Type 0 where
   pub leaves : List ℕ
   pub lengths : Lengths
-  pub call : Call
+  pub made : Made
 
 unfoldable pub leave : State → List ℕ → State
 leave s pool =
     record { settings = s .settings; lengths = s .lengths; regions = s .regions; poison = s .poison; counts = s .counts; rows = s .rows; free = s .free; ready = s .ready; owners = s .owners; pool = pool }
 
+-- the next state and the reply; a lookup changes nothing
+unfoldable pub done : State → Lengths → Made → State × Reply
+done s l (calls c) = step s l c
+done s l (looks x) = (s, look s l x)
+
 unfoldable pub next : State → Event → State
-next s e = step (leave s (e .leaves)) (e .lengths) (e .call) .0
+next s e = done (leave s (e .leaves)) (e .lengths) (e .made) .0
+
+unfoldable pub replyTo : State → Event → Reply
+replyTo s e = done (leave s (e .leaves)) (e .lengths) (e .made) .1
 
 unfoldable pub run : State → List Event → State
 run s [] = s
@@ -109,6 +125,8 @@ pub record StepLaws : Type 0 where
       → Sound (run (opened o (plansIn (o .regions) plan) l pool) es)
   -- a call that is turned away changes nothing
   pub turned-away : (s : State) (l : Lengths) (c : Call) (f : Refusal) → step s l c .1 ≡ turnedAway f → step s l c .0 ≡ s
+  -- a lookup with another length likewise
+  pub another-length-looked : (s : State) (l : Lengths) (x : Lookup) → eqLengths l (s .lengths) ≡ false → look s l x ≡ turnedAway Unfit
   -- another length is asked before all else
   pub another-length : (s : State) (l : Lengths) (c : Call) → eqLengths l (s .lengths) ≡ false → step s l c .1 ≡ turnedAway Unfit
   -- the questions have the paper's numbers, in its order

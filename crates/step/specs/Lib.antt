@@ -1,5 +1,9 @@
 pub mod Questions
+pub mod Rules
 pub mod Step
 pub mod Sound
 pub mod Laws
+pub mod Lists
+pub mod Alone
+pub mod Demand3
 pub mod Figures

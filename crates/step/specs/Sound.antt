@@ -79,6 +79,12 @@ SplitFits (Piece (Page a b) s) = (a .0 + s .total ≡ b .0) × (s .done < s .tot
 SplitFits (Piece (Read a b) s) = (a .0 + s .total ≡ b .0) × (s .done < s .total)
 SplitFits (Flush t) = Unit {0}
 
+-- the ticket of a flush is its region's
+unfoldable pub TicketFits : Opening → Region → Awaits → Type 0
+TicketFits o g Nothing = Unit {0}
+TicketFits o g (Piece k s) = Unit {0}
+TicketFits o g (Flush t) = (t .volume ≡ o .volume) × (t .region ≡ g .id) × (t .generation ≡ g .generation) × (t .epoch ≡ o .epoch)
+
 -- a live row's range lies in its region's data and fits its buffer, which is in the pool
 pub record InTable (s : State) (r : Row) : Type 0 where
   pub region : r .handle < s .settings .regions
@@ -87,10 +93,17 @@ pub record InTable (s : State) (r : Row) : Type 0 where
   pub in-data : rangeEnd (r .awaits) ≤ regionAt s (r .handle) .map .dataLength
   pub length : rangeEnd (r .awaits) ≤ rangeStart (r .awaits) + s .settings .capacity
   pub split : SplitFits (r .awaits)
+  pub ticket : TicketFits (s .settings) (regionAt s (r .handle)) (r .awaits)
   -- its sequence number is below the next
   pub before : r .seq < s .counts .submissions
 
 -- what is used of a region as the opening admitted it
+pub record SoundRegion (o : Opening) (g : Region) : Type 0 where
+  pub generation : g .generation < 2 ^ 32
+  pub runs : length (g .map .more) ≤ 32
+  pub lawful : Lawful (g .map)
+  pub on-card : (p : ℕ) → p < g .map .capacity → place (g .map) p < o .card
+
 pub record SoundRegion (o : Opening) (g : Region) : Type 0 where
   pub generation : g .generation < 2 ^ 32
   pub runs : length (g .map .more) ≤ 32
@@ -117,7 +130,6 @@ pub record Sound (s : State) : Type 0 where
   -- no two positions share a card byte, of one region or of two
   pub apart : (h k p q : ℕ) → h < s .settings .regions → k < s .settings .regions → p < regionAt s h .map .capacity → q < regionAt s k .map .capacity
       → place (regionAt s h .map) p ≡ place (regionAt s k .map) q → (h ≡ k) × (p ≡ q)
-  pub poison : PoisonFits (s .poison)
   -- the counts
   pub rows : length (s .rows) ≡ s .settings .depth
   pub live : s .counts .live ≡ liveRows (s .rows)

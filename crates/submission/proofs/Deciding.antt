@@ -31,7 +31,8 @@ use Rattle.model.specs.Memory.{flag, settingsIn, lengthsOf, lengthsIn, sameLeng
 use Rattle.model.specs.Laws.{mapWordsAt}
 use Rattle.model.proofs.Maps.{runs-length}
 use Rattle.step.specs.Questions.{regionAt, firstNo}
-use Rattle.step.specs.Step.{begun, endOf, pieceOf, topOf, verdictOf}
+use Rattle.step.specs.Rules.{pieceOf}
+use Rattle.step.specs.Step.{begun, endOf, topOf, verdictOf}
 use Rattle.step.specs.Sound.{Sound, ErrorFits, PoisonFits}
 use Rattle.step.proofs.Answers.{Passed}
 use Rattle.step.proofs.Memory.{lengths-are}

@@ -1,0 +1,206 @@
+-- Demand 3: "Whatever order the storage card answers in: from any table that calls after an opening have left, where no open write shares mapped card bytes
+-- with another open operation, take any two lists of answers, flush results, takings and lookups, turned-away ones included, until all open operations are
+-- done. .. Then each operation open at first gets in both exactly one completion, and its buffer as completed, equal to those of document 01's operation
+-- alone; the set of free rows, the generations and the card's bytes, equal at first, agree; free plus live rows equal the depth after every call."
+-- Beside it the projection, of any history: an operation in the table is the operation alone. Proved in proofs/Demand3.antt (demand3, projection).
+use mathlib.Core.Path.{_≡_}
+use mathlib.Core.Logic.{_≢_, _⊎_}
+use mathlib.Core.Bool.{Bool, true, false}
+use mathlib.Core.Option.{Option, none, some}
+use mathlib.Core.List.{List, [], _∷_, _++_}
+use Prim.Native.Nat.{ℕ, _+_, _<_}
+use lib.ListN.{length, take, drop, getD}
+use Rattle.regionmap.specs.Map.{place}
+use Rattle.posix.specs.Posix.{Card}
+use Rattle.platform.specs.declared.Answer.{Answer}
+use Rattle.model.specs.declared.Opening.{Opening}
+use Rattle.model.specs.declared.Lengths.{Lengths}
+use Rattle.model.specs.declared.Kind.{Kind}
+use Rattle.model.specs.declared.Kind.the-variants.{Page, Read}
+use Rattle.model.specs.declared.Split.{Split}
+use Rattle.model.specs.declared.Awaits.{Awaits}
+use Rattle.model.specs.declared.Awaits.the-variants.{Nothing, Piece, Flush}
+use Rattle.model.specs.declared.Row.{Row}
+use Rattle.model.specs.declared.Call.{Call}
+use Rattle.model.specs.declared.Call.the-variants.{Write, ReadPage, Answer as answer, Flushed as flushResult, Take, SetGate, SetReadOnly, SetForced, ReportPoison}
+use Rattle.model.specs.State.{State, liveRows}
+use Rattle.model.specs.Opening.{Plan, opened}
+use Rattle.model.specs.Memory.{plansIn, opens}
+use Rattle.step.specs.Questions.{regionAt}
+use Rattle.step.specs.Rules.{pieceLength, isWhole, isRefusal, Input, Input.answered, Input.flushed}
+use Rattle.step.specs.Step.{rowOf, rowAt, bytesAt, isLive, names, settled, eqLengths}
+use Rattle.step.specs.Sound.{times, rangeStart, rangeEnd}
+use Rattle.step.specs.Laws.{Made, Made.calls, Made.looks, Event, leave, done, next, run, replyTo}
+use Rattle.step.specs.Lists.{brought, isAway, loose, planAt, given, Completed, gets, added, takings, cardAfter, Hosted, HostMay, tagAt, tagIn}
+use Rattle.step.specs.Alone.{Course, Course.isOpen, Course.completed, Course.wasRefused, Alones, noneYet, aloneFate, alones}
+
+-- ---- an opened table
+
+pub record Start : Type 0 where
+  pub opening : Opening
+  pub plan : List ℕ
+  pub lengths : Lengths
+  pub pool : List ℕ
+  pub admitted : opens opening plan lengths ≡ true
+  pub whole : length pool ≡ lengths .pool
+
+-- its regions as the opening was given them
+unfoldable pub plansOf : Start → List Plan
+plansOf x = plansIn (x .opening .regions) (x .plan)
+
+unfoldable pub openedBy : Start → State
+openedBy x = opened (x .opening) (plansOf x) (x .lengths) (x .pool)
+
+-- the table after a history
+unfoldable pub after : Start → List Event → State
+after x h = run (openedBy x) h
+
+-- every operation alone after a history
+unfoldable pub alonesAfter : Start → List Event → Alones
+alonesAfter x h = alones (x .opening) (plansOf x) (x .lengths) (openedBy x) noneYet h
+
+-- the operation alone under a queue tag
+unfoldable pub aloneAt : Start → List Event → ℕ → Option Course
+aloneAt x h t = alonesAfter x h .ops t
+
+-- ---- the projection, of any history with submissions, refusals and failures
+
+-- the bytes of an open operation's buffer are the operation alone's, but for the piece of a read under way, which is the host's
+pub record Alike (s : State) (r : Row) (bytes : List ℕ) : Type 0 where
+  pub count : length bytes ≡ s .settings .capacity
+  pub same : drop (loose (planAt s r) (r .awaits)) bytes ≡ drop (loose (planAt s r) (r .awaits)) (bytesAt s (r .buffer))
+
+-- the operation in a row is the one alone under its tag
+pub record IsAlone (s : State) (a : Alones) (r : ℕ) : Type 0 where
+  pub bytes : List ℕ
+  pub same : a .ops (tagAt s r) ≡ some (isOpen (rowAt s r) bytes)
+  pub alike : Alike s (rowAt s r) bytes
+
+pub record Projected (s : State) (a : Alones) : Type 0 where
+  -- each live row is an operation alone that is open
+  pub each : (r : ℕ) → isLive (rowAt s r .awaits) ≡ true → IsAlone s a r
+  -- and each operation alone that is open is a live row's
+  pub only : (t : ℕ) (r : Row) (bytes : List ℕ) → a .ops t ≡ some (isOpen r bytes) → (names (rowAt s (rowOf t)) t ≡ true) × (rowAt s (rowOf t) ≡ r)
+  -- the marks and the first cause that it is fed are the table's
+  pub forced : (h : ℕ) → h < s .settings .regions → a .forced h ≡ regionAt s h .forced
+  pub first : a .first ≡ s .poison
+  pub count : a .count ≡ s .counts .submissions
+
+-- an event that brings the input i to the operation under the queue tag t, from the table s and the operations alone a: the table does what is done alone
+pub record StepsAlone (x : Start) (s : State) (a a′ : Alones) (e : Event) (t : ℕ) (i : Input) : Type 0 where
+  -- where none is open under the tag, or another length is lent, the event is turned away and changes nothing
+  pub none-open : ((r : Row) (bytes : List ℕ) → a .ops t ≡ some (isOpen r bytes) → ⊥) → (isAway (replyTo s e) ≡ true) × (next s e ≡ leave s (e .leaves))
+  pub another-length : eqLengths (e .lengths) (x .lengths) ≡ false → (isAway (replyTo s e) ≡ true) × (next s e ≡ leave s (e .leaves))
+  -- where one is, the rules say of the row what they say of the operation alone, and that is what the table does
+  pub same-fate : (r : Row) (bytes : List ℕ) → a .ops t ≡ some (isOpen r bytes) → eqLengths (e .lengths) (x .lengths) ≡ true
+      → done (leave s (e .leaves)) (e .lengths) (e .made) ≡ settled (leave s (e .leaves)) t r (aloneFate (x .opening) (plansOf x) (x .lengths) a (e .leaves) r bytes i)
+  -- so a completion is added exactly if the operation alone ends with it, and with its buffer as completed
+  pub completes : (r : Row) (bytes : List ℕ) (c : Completed) → a .ops t ≡ some (isOpen r bytes) → a′ .ops t ≡ some (completed c)
+      → (next s e .ready ≡ s .ready ++ (c .0 ∷ [])) × (bytesAt (next s e) (r .buffer) ≡ c .1)
+  pub goes-on : (r r′ : Row) (bytes bytes′ : List ℕ) → a .ops t ≡ some (isOpen r bytes) → a′ .ops t ≡ some (isOpen r′ bytes′) → next s e .ready ≡ s .ready
+  pub refused : (r : Row) (bytes : List ℕ) → a .ops t ≡ some (isOpen r bytes) → a′ .ops t ≡ some wasRefused → next s e .ready ≡ s .ready
+
+unfoldable pub Projection : Type 0
+Projection = (x : Start) (h : List Event) → Hosted (openedBy x) h
+    → Projected (after x h) (alonesAfter x h)
+    × ((e : Event) (t : ℕ) (i : Input) → HostMay (after x h) (e .leaves) → brought t (e .made) ≡ some i
+    → StepsAlone x (after x h) (alonesAfter x h) (alonesAfter x (h ++ (e ∷ []))) e t i)
+
+-- ---- the suppositions
+
+-- "answers, flush results, takings and lookups"; "nothing is submitted, set or reported poisoned"
+unfoldable pub listedCall : Call → Bool
+listedCall (Write q) = false
+listedCall (ReadPage q) = false
+listedCall (answer t a back flushes) = true
+listedCall (flushResult t result) = true
+listedCall Take = true
+listedCall (SetGate h x) = false
+listedCall (SetReadOnly h x) = false
+listedCall (SetForced h x) = false
+listedCall (ReportPoison c) = false
+
+unfoldable pub isListed : Made → Bool
+isListed (calls c) = listedCall c
+isListed (looks x) = true
+
+-- "write pieces are taken whole with their buffer back, no first piece is refused"
+unfoldable pub FairTo : State → Row → Awaits → Input → Type 0
+FairTo s r Nothing i = Unit {0}
+FairTo s r (Piece (Page a b) sp) (answered x back flushes) = (isWhole (pieceLength (planAt s r) (Page a b) sp) x ≡ true) × (back ≡ true)
+FairTo s r (Piece (Page a b) sp) (flushed result) = Unit {0}
+FairTo s r (Piece (Read a b) sp) (answered x back flushes) = sp .done ≡ 0 → isRefusal x ≡ false
+FairTo s r (Piece (Read a b) sp) (flushed result) = Unit {0}
+FairTo s r (Flush t) i = Unit {0}
+
+-- of each answer that is not turned away
+unfoldable pub Fair : State → Event → Type 0
+Fair s e = (i : Input) → brought (tagIn (e .made)) (e .made) ≡ some i → isAway (replyTo s e) ≡ false
+    → FairTo s (rowAt s (rowOf (tagIn (e .made)))) (rowAt s (rowOf (tagIn (e .made))) .awaits) i
+
+-- one of the two lists: "Each call gets what the last left (in other lengths where it gets 13), the host writes only as document 01 allows"
+unfoldable pub Fits : State → List Event → Type 0
+Fits s [] = Unit {0}
+Fits s (e ∷ es) = HostMay s (e .leaves) × (isListed (e .made) ≡ true) × Fair s e × Fits (next s e) es
+
+-- "until all open operations are done"
+unfoldable pub AllDone : State → Type 0
+AllDone s = (r : ℕ) → isLive (rowAt s r .awaits) ≡ false
+
+-- the card bytes that an operation's range is mapped to
+pub record Mapped (s : State) (r : Row) (x : ℕ) : Type 0 where
+  pub i : ℕ
+  pub inside : rangeStart (r .awaits) + i < rangeEnd (r .awaits)
+  pub at : place (regionAt s (r .handle) .map) (rangeStart (r .awaits) + i) ≡ x
+
+unfoldable pub isWrite : Awaits → Bool
+isWrite Nothing = false
+isWrite (Piece (Page a b) s) = true
+isWrite (Piece (Read a b) s) = false
+isWrite (Flush t) = true
+
+-- "no open write shares mapped card bytes with another open operation"
+unfoldable pub Apart : State → Type 0
+Apart s = (r k x : ℕ) → r ≢ k → isWrite (rowAt s r .awaits) ≡ true → isLive (rowAt s k .awaits) ≡ true → Mapped s (rowAt s r) x → Mapped s (rowAt s k) x → ⊥
+
+-- "Each piece and flush has one answer not turned away, alike in both lists: its form and numbers, every byte the host leaves in a read's piece, past the count
+-- or before an error too, the flush count, whether a piece's buffer is back"
+unfoldable pub GivenAlike : State → List Event → List Event → Type 0
+GivenAlike s l₁ l₂ = (r : ℕ) → isLive (rowAt s r .awaits) ≡ true → given s l₁ (tagAt s r) ≡ given s l₂ (tagAt s r)
+
+pub record Supposed (s : State) (l₁ l₂ : List Event) : Type 0 where
+  pub apart : Apart s
+  pub fits₁ : Fits s l₁
+  pub fits₂ : Fits s l₂
+  pub alike : GivenAlike s l₁ l₂
+  pub done₁ : AllDone (run s l₁)
+  pub done₂ : AllDone (run s l₂)
+
+-- ---- the claim
+
+-- "each operation open at first gets in both exactly one completion, and its buffer as completed, equal to those of document 01's operation alone"
+pub record OneEach (x : Start) (h l₁ l₂ : List Event) (r : ℕ) : Type 0 where
+  pub it : Completed
+  pub first : gets (after x h) l₁ (tagAt (after x h) r) (rowAt (after x h) r .buffer) ≡ it ∷ []
+  pub second : gets (after x h) l₂ (tagAt (after x h) r) (rowAt (after x h) r .buffer) ≡ it ∷ []
+  pub alone₁ : aloneAt x (h ++ l₁) (tagAt (after x h) r) ≡ some (completed it)
+  pub alone₂ : aloneAt x (h ++ l₂) (tagAt (after x h) r) ≡ some (completed it)
+
+-- of one list: no completion but those, and each completion is taken or still ready, oldest first
+pub record NoMore (s : State) (l : List Event) : Type 0 where
+  pub count : length (added s l) ≡ liveRows (s .rows)
+  pub queue : s .ready ++ added s l ≡ takings s l ++ run s l .ready
+  -- "free plus live rows equal the depth after every call"
+  pub balance : (n : ℕ) → length (run s (take n l) .free) + liveRows (run s (take n l) .rows) ≡ s .settings .depth
+
+pub record Agreed (x : Start) (h : List Event) (card : Card) (l₁ l₂ : List Event) : Type 0 where
+  pub each : (r : ℕ) → isLive (rowAt (after x h) r .awaits) ≡ true → OneEach x h l₁ l₂ r
+  pub no-more₁ : NoMore (after x h) l₁
+  pub no-more₂ : NoMore (after x h) l₂
+  -- "the set of free rows, the generations and the card's bytes, equal at first, agree"
+  pub free-rows : (r : ℕ) → times r (run (after x h) l₁ .free) ≡ times r (run (after x h) l₂ .free)
+  pub generations : (r : ℕ) → rowAt (run (after x h) l₁) r .generation ≡ rowAt (run (after x h) l₂) r .generation
+  pub card-bytes : (b : ℕ) → cardAfter (after x h) l₁ card b ≡ cardAfter (after x h) l₂ card b
+
+unfoldable pub Demand3 : Type 0
+Demand3 = (x : Start) (h : List Event) → Hosted (openedBy x) h → (card : Card) (l₁ l₂ : List Event) → Supposed (after x h) l₁ l₂ → Agreed x h card l₁ l₂

@@ -1,0 +1,201 @@
+-- What a list of calls gives each operation, and what the operation gets: by its queue tag, from the events and the table's replies.
+use mathlib.Core.Path.{_≡_}
+use mathlib.Core.Logic.{_⊎_}
+use mathlib.Core.Bool.{Bool, true, false, not, _&&_}
+use mathlib.Core.Option.{Option, none, some}
+use mathlib.Core.List.{List, [], _∷_, _++_}
+use Prim.Native.Nat.{ℕ, _+_, _<_}
+use lib.ListN.{length, take, drop, getD}
+use lib.Dec.{eqb}
+use Rattle.layout.specs.Pick.{pick}
+use Rattle.regionmap.specs.Map.{place}
+use Rattle.iobuf.specs.Turn.{stretch}
+use Rattle.posix.specs.Posix.{Card, pwrite}
+use Rattle.platform.specs.declared.Answer.{Answer}
+use Rattle.completion.specs.declared.Completion.{Completion}
+use Rattle.completion.specs.declared.Reply.{Reply}
+use Rattle.completion.specs.declared.Reply.the-variants.{Piece as piece, No as turnedAway, Rejected, Done, Flush as flushAsked, Took, None as noneReady, Ok, Writes, Mark}
+use Rattle.model.specs.declared.Kind.{Kind}
+use Rattle.model.specs.declared.Kind.the-variants.{Page, Read}
+use Rattle.model.specs.declared.Split.{Split}
+use Rattle.model.specs.declared.Awaits.{Awaits}
+use Rattle.model.specs.declared.Awaits.the-variants.{Nothing, Piece, Flush}
+use Rattle.model.specs.declared.Row.{Row}
+use Rattle.model.specs.declared.Call.{Call}
+use Rattle.model.specs.declared.Call.the-variants.{Write, ReadPage, Answer as answer, Flushed as flushResult, Take, SetGate, SetReadOnly, SetForced, ReportPoison}
+use Rattle.model.specs.State.{Owner.host, Owner.lost, State}
+use Rattle.model.specs.Opening.{Plan}
+use Rattle.step.specs.Questions.{regionAt, heldAt}
+use Rattle.step.specs.Rules.{firstOf, pieceLength, isWhole, isRefusal, Input, Input.answered, Input.flushed}
+use Rattle.step.specs.Step.{queueTag, rowOf, rowAt, bytesAt, planOf, isLive}
+use Rattle.step.specs.Laws.{Made, Made.calls, Made.looks, Event, leave, next, replyTo}
+
+-- ---- what an event brings to an operation
+
+-- what is fed to the operation under the queue tag t: an answer or a flush result under it
+unfoldable pub broughtBy : ℕ → Call → Option Input
+broughtBy t (Write q) = none
+broughtBy t (ReadPage q) = none
+broughtBy t (answer t′ a back flushes) = pick (eqb t′ t) (some (answered a back flushes)) none
+broughtBy t (flushResult t′ result) = pick (eqb t′ t) (some (flushed result)) none
+broughtBy t Take = none
+broughtBy t (SetGate h x) = none
+broughtBy t (SetReadOnly h x) = none
+broughtBy t (SetForced h x) = none
+broughtBy t (ReportPoison c) = none
+
+unfoldable pub brought : ℕ → Made → Option Input
+brought t (calls c) = broughtBy t c
+brought t (looks x) = none
+
+-- a reply that turns a call away
+unfoldable pub isAway : Reply → Bool
+isAway (piece t o n b) = false
+isAway (turnedAway f) = true
+isAway (Rejected g o e b) = false
+isAway (Done t) = false
+isAway (flushAsked t n) = false
+isAway (Took c) = false
+isAway noneReady = false
+isAway Ok = false
+isAway (Writes w) = false
+isAway (Mark m) = false
+
+-- "for a read, the bytes of the piece under way": how many bytes at the front of its buffer the host may change while an operation waits
+unfoldable pub loose : Plan → Awaits → ℕ
+loose g Nothing = 0
+loose g (Piece (Page a b) s) = 0
+loose g (Piece (Read a b) s) = pieceLength g (Read a b) s
+loose g (Flush t) = 0
+
+-- the region of a row as the opening was given it
+unfoldable pub planAt : State → Row → Plan
+planAt s r = planOf (regionAt s (r .handle))
+
+-- "every byte the host leaves in a read's piece, past the count or before an error too"
+unfoldable pub leftIn : State → Row → List ℕ
+leftIn s r = take (loose (planAt s r) (r .awaits)) (bytesAt s (r .buffer))
+
+-- an input, and the bytes left in the piece under way as it arrives
+abbrev pub Given : Type 0
+Given = Input × List ℕ
+
+unfoldable pub givenAs : Option Input → Bool → List ℕ → List Given
+givenAs none away left = []
+givenAs (some i) away left = pick away [] ((i, left) ∷ [])
+
+-- what an event gives to the operation under the queue tag t, if it is not turned away
+unfoldable pub givenBy : State → Event → ℕ → List Given
+givenBy s e t = givenAs (brought t (e .made)) (isAway (replyTo s e)) (leftIn (leave s (e .leaves)) (rowAt s (rowOf t)))
+
+-- the answers and flush results under the queue tag t that are not turned away, in their order
+unfoldable pub given : State → List Event → ℕ → List Given
+given s [] t = []
+given s (e ∷ es) t = givenBy s e t ++ given (next s e) es t
+
+-- ---- what an operation gets
+
+-- a completion, and every byte of its operation's buffer when the completing call returns
+abbrev pub Completed : Type 0
+Completed = Completion × List ℕ
+
+unfoldable pub withBytes : List ℕ → List Completion → List Completed
+withBytes bytes [] = []
+withBytes bytes (c ∷ cs) = (c, bytes) ∷ withBytes bytes cs
+
+-- the completions that an event adds behind those that were ready
+unfoldable pub addedBy : State → Event → List Completion
+addedBy s e = drop (length (s .ready)) (next s e .ready)
+
+unfoldable pub isBrought : Option Input → Bool
+isBrought none = false
+isBrought (some i) = true
+
+-- all completions that the operation under the queue tag t gets, whose buffer is b
+unfoldable pub gets : State → List Event → ℕ → ℕ → List Completed
+gets s [] t b = []
+gets s (e ∷ es) t b = pick (isBrought (brought t (e .made))) (withBytes (bytesAt (next s e) b) (addedBy s e)) [] ++ gets (next s e) es t b
+
+-- all completions that a list adds
+unfoldable pub added : State → List Event → List Completion
+added s [] = []
+added s (e ∷ es) = addedBy s e ++ added (next s e) es
+
+-- what the takings of a list give
+unfoldable pub tookBy : Reply → List Completion
+tookBy (piece t o n b) = []
+tookBy (turnedAway f) = []
+tookBy (Rejected g o e b) = []
+tookBy (Done t) = []
+tookBy (flushAsked t n) = []
+tookBy (Took c) = c ∷ []
+tookBy noneReady = []
+tookBy Ok = []
+tookBy (Writes w) = []
+tookBy (Mark m) = []
+
+unfoldable pub takings : State → List Event → List Completion
+takings s [] = []
+takings s (e ∷ es) = tookBy (replyTo s e) ++ takings (next s e) es
+
+-- ---- the card: "nothing changes the card but a write's piece answered whole, by an answer not turned away: its bytes in the buffer go to its offset"
+
+unfoldable pub isPiece : ℕ → Option Input → Bool
+isPiece n none = false
+isPiece n (some (answered a back flushes)) = isWhole n a
+isPiece n (some (flushed result)) = false
+
+unfoldable pub wroteBy : Plan → Awaits → List ℕ → Option Input → Card → Card
+wroteBy g Nothing bytes i card = card
+wroteBy g (Piece (Page a b) s) bytes i card =
+    pick (isPiece (pieceLength g (Page a b) s) i) (pwrite card (place (g .map) (a .0 + s .done)) (take (pieceLength g (Page a b) s) bytes)) card
+wroteBy g (Piece (Read a b) s) bytes i card = card
+wroteBy g (Flush t) bytes i card = card
+
+-- the queue tag of an answer or a flush result
+unfoldable pub tagIn : Made → ℕ
+tagIn (calls (Write q)) = 0
+tagIn (calls (ReadPage q)) = 0
+tagIn (calls (answer t a back flushes)) = t
+tagIn (calls (flushResult t result)) = t
+tagIn (calls Take) = 0
+tagIn (calls (SetGate h x)) = 0
+tagIn (calls (SetReadOnly h x)) = 0
+tagIn (calls (SetForced h x)) = 0
+tagIn (calls (ReportPoison c)) = 0
+tagIn (looks x) = 0
+
+-- the card after an event
+unfoldable pub cardBy : State → Event → Card → Card
+cardBy s e card =
+    let t = tagIn (e .made) in
+    let r = rowAt s (rowOf t) in
+    pick (isAway (replyTo s e)) card (wroteBy (planAt s r) (r .awaits) (bytesAt (leave s (e .leaves)) (r .buffer)) (brought t (e .made)) card)
+
+unfoldable pub cardAfter : State → List Event → Card → Card
+cardAfter s [] card = card
+cardAfter s (e ∷ es) card = cardAfter (next s e) es (cardBy s e card)
+
+-- ---- what the host may do
+
+-- the buffer of a read whose piece is under way: only that piece's bytes differ
+pub record LooseIn (s : State) (pool : List ℕ) (b : ℕ) : Type 0 where
+  pub r : ℕ
+  pub buffer : rowAt s r .buffer ≡ b
+  pub live : isLive (rowAt s r .awaits) ≡ true
+  pub same : drop (loose (planAt s (rowAt s r)) (rowAt s r .awaits)) (stretch (s .settings .capacity) b pool)
+      ≡ drop (loose (planAt s (rowAt s r)) (rowAt s r .awaits)) (bytesAt s b)
+
+-- "Between calls the host changes only buffers it holds and, for a read, the bytes of the piece under way, never row memory"
+pub record HostMay (s : State) (pool : List ℕ) : Type 0 where
+  pub count : length pool ≡ length (s .pool)
+  pub each : (b : ℕ) → b < s .settings .buffers → (heldAt s b ≡ true) ⊎ ((stretch (s .settings .capacity) b pool ≡ bytesAt s b) ⊎ LooseIn s pool b)
+
+-- a history: any calls, between which the host keeps to its buffers
+unfoldable pub Hosted : State → List Event → Type 0
+Hosted s [] = Unit {0}
+Hosted s (e ∷ es) = HostMay s (e .leaves) × Hosted (next s e) es
+
+-- the queue tag of the operation in a row
+unfoldable pub tagAt : State → ℕ → ℕ
+tagAt s r = queueTag r (rowAt s r .generation)
