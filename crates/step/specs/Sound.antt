@@ -8,10 +8,6 @@ use lib.Dec.{eqb}
 use Rattle.layout.specs.Pick.{pick}
 use Rattle.regionmap.specs.Map.{place}
 use Rattle.regionmap.specs.Laws.{Lawful}
-use Rattle.domain.specs.declared.OsError.{OsError}
-use Rattle.domain.specs.declared.OsError.the-variants.{None as noError, Raw}
-use Rattle.domain.specs.declared.Poisoned.{Poisoned}
-use Rattle.domain.specs.declared.Poisoned.the-variants.{Never, First}
 use Rattle.completion.specs.declared.Buffer.{Buffer}
 use Rattle.completion.specs.declared.Buffer.the-variants.{Back, Lost}
 use Rattle.completion.specs.declared.Completion.{Completion}
@@ -103,21 +99,6 @@ pub record SoundRegion (o : Opening) (g : Region) : Type 0 where
   pub runs : length (g .map .more) ≤ 32
   pub lawful : Lawful (g .map)
   pub on-card : (p : ℕ) → p < g .map .capacity → place (g .map) p < o .card
-
-pub record SoundRegion (o : Opening) (g : Region) : Type 0 where
-  pub generation : g .generation < 2 ^ 32
-  pub runs : length (g .map .more) ≤ 32
-  pub lawful : Lawful (g .map)
-  pub on-card : (p : ℕ) → p < g .map .capacity → place (g .map) p < o .card
-
--- an OS error has 32 bits
-unfoldable pub ErrorFits : OsError → Type 0
-ErrorFits noError = Unit {0}
-ErrorFits (Raw n) = n < 2 ^ 32
-
-unfoldable pub PoisonFits : Poisoned → Type 0
-PoisonFits Never = Unit {0}
-PoisonFits (First c) = ErrorFits (c .raw)
 
 pub record Sound (s : State) : Type 0 where
   -- the opening's
