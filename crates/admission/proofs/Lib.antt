@@ -1,3 +1,2 @@
 -- Proofs about the functions of src/.
 pub mod Holder
-pub mod Asking

@@ -126,7 +126,7 @@ fn cause(t: Tally, c: FirstCause) -> Tally {
 
 // A refusal: its number, and its context or its cause.
 fn turned_away(t: Tally, refusal: Refusal) -> Tally {
-    let numbered = counted(t, trace::number_of(refusal));
+    let numbered = counted(t, texts::number_of(refusal));
     match refusal {
         Refusal::Poisoned(c) => cause(numbered, c),
         _ => context(numbered, context_of(refusal)),

@@ -132,7 +132,7 @@ fn say_context(c: Context) {
 // `no N` and the context.
 fn say_refusal(refusal: Refusal) {
     say(b"# no");
-    spaced(trace::number_of(refusal));
+    spaced(texts::number_of(refusal));
     say_context(context_of(refusal));
     say(b"\n");
 }

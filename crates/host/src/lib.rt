@@ -2,7 +2,7 @@
 // reference to a row. 64 rows, whatever the depth: row memory may be longer than the depth.
 ghost use mathlib.Core.Path.{_≡_};
 ghost use Rattle.submission.specs.Decided.{lentOf};
-ghost use Rattle.issue.specs.Touched.{CallsTo};
+ghost use Rattle.queuecore.specs.Called.{CallsTo};
 ghost use Rattle.submitter.specs.Open.{OpensTo};
 use completion::Reply;
 use model::Call;

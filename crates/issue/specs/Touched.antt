@@ -1,28 +1,15 @@
--- What a call leaves: its reply, the counts, and all that is lent. One equation with the step, of every sound table; and what holds of any words.
-use mathlib.Core.Path.{_≡_}
+-- What a submission's verdict leaves: the row as it becomes, whether the counts accept an operation, the reply, and the buffers' owners.
 use mathlib.Core.Bool.{true, false}
 use mathlib.Core.List.{List}
 use Prim.Native.Nat.{ℕ}
-use lib.ListN.{length, getD, drop, set}
+use lib.ListN.{set}
 use Rattle.regionmap.specs.Words.{wrap64}
-use Rattle.completion.specs.declared.Refusal.{Refusal}
-use Rattle.completion.specs.declared.Refusal.the-variants.{Unfit}
-use Rattle.completion.specs.declared.Reply.{Reply}
 use Rattle.completion.specs.declared.Reply.the-variants.{Piece as piece, No as turnedAway}
-use Rattle.model.specs.declared.Opening.{Opening}
-use Rattle.model.specs.declared.Counts.{Counts}
 use Rattle.model.specs.declared.Row.{Row}
-use Rattle.model.specs.declared.Call.{Call}
 use Rattle.model.specs.declared.Request.{Request}
 use Rattle.model.specs.declared.Verdict.{Verdict}
 use Rattle.model.specs.declared.Verdict.the-variants.{No as refuses, Accept}
-use Rattle.model.specs.State.{freed}
-use Rattle.model.specs.Opening.{storeWords, readyWords}
-use Rattle.model.specs.Memory.{Lent, lengthsOf, sameLengths, settingsIn, stateIn}
-use Rattle.step.specs.Step.{queueTag, claimedBy, step}
-use Rattle.step.specs.Sound.{Sound}
-use Rattle.optable.specs.Counted.{acceptedIf}
-use Rattle.submission.specs.Decided.{lentOf}
+use Rattle.step.specs.Step.{queueTag, claimedBy}
 use Rattle.issue.specs.declared.Touched.{Touched}
 
 -- the row, the counts and the reply that a verdict leads to, of the row on top of the free stack and the next sequence number
@@ -35,31 +22,3 @@ issued (Accept r k p) row seq q =
 unfoldable pub ownersAfter : Verdict → Request → List ℕ → List ℕ
 ownersAfter (refuses f) q owners = owners
 ownersAfter (Accept r k p) q owners = set owners (q .buffer) 1
-
--- nothing lent beyond what the table needs is written, and no length changes
-pub record Beyond (o : Opening) (l l′ : Lent) : Type 0 where
-  pub lengths : lengthsOf l′ ≡ lengthsOf l
-  pub rows : drop (o .depth) (l′ .rows) ≡ drop (o .depth) (l .rows)
-  pub store : drop (storeWords (o .regions)) (l′ .store) ≡ drop (storeWords (o .regions)) (l .store)
-  pub free : drop (o .depth) (l′ .free) ≡ drop (o .depth) (l .free)
-  pub ready : drop (readyWords (o .depth)) (l′ .ready) ≡ drop (readyWords (o .depth)) (l .ready)
-  pub owners : drop (o .buffers) (l′ .owners) ≡ drop (o .buffers) (l .owners)
-
-pub record CallsTo (call : Call) (c : Counts) (l : Lent) (r : Reply) (c′ : Counts) (l′ : Lent) : Type 0 where
-  -- "A later call with another length of row memory or pool gets 13 first."
-  pub another-length : sameLengths (lengthsOf l) (l .store) ≡ false → r ≡ turnedAway Unfit
-  -- a call that is turned away changes nothing: no count, no row, no word, no byte
-  pub turned-away : (f : Refusal) → r ≡ turnedAway f → (c′ ≡ c) × (l′ ≡ l)
-  -- of every table that calls have left: the reply and the next state are the step's
-  pub as-step : Sound (stateIn c l) → step (stateIn c l) (lengthsOf l) call ≡ (stateIn c′ l′, r)
-  pub beyond : Sound (stateIn c l) → Beyond (settingsIn (l .store)) l l′
-
--- the row that a submission touches: the one on top of the free stack
-abbrev pub touchedRow : List Row → Counts → List ℕ → Row
-touchedRow rows c free = getD rows (getD free (c .live) 0) (freed 0)
-
--- with any rows among which the given one is the one to touch, the call as a whole
-abbrev pub TouchesTo : Call → Row → Counts → ℕ → List ℕ → List ℕ → List ℕ → List ℕ → List ℕ → Touched → List ℕ → List ℕ → List ℕ → List ℕ → List ℕ → Type 0
-TouchesTo call row c n store free ready owners pool t store′ free′ ready′ owners′ pool′ =
-    (rows : List Row) → length rows ≡ n → row ≡ touchedRow rows c free
-    → CallsTo call c (lentOf rows store free ready owners pool) (t .reply) (acceptedIf (t .accepts) c) (lentOf (set rows (getD free (c .live) 0) (t .row)) store′ free′ ready′ owners′ pool′)

@@ -1,12 +1,9 @@
-// What a call leaves of all but the rows and the counts (store-io's submitter/mod.rs: issue, and the arms of queue_core.rs): the buffer's owner, the row as
-// it becomes, whether the counts accept an operation, the reply.
+// What a submission's verdict leaves (store-io's submitter/mod.rs: issue): the buffer's owner, the row as it becomes, whether the counts accept an
+// operation, the reply.
 ghost use mathlib.Core.Path.{_≡_};
 ghost use lib.ListN.{set};
-ghost use Rattle.issue.specs.Touched.{issued, ownersAfter, TouchesTo};
+ghost use Rattle.issue.specs.Touched.{issued, ownersAfter};
 use completion::Reply;
-use model::Call;
-use model::Counts;
-use model::Lengths;
 use model::Request;
 use model::Row;
 use model::Verdict;
@@ -29,7 +26,7 @@ fn lend(owners: &mut [u64], buffer: u64)
 }
 
 // What a verdict leaves of the row on top, of the owners, and its reply (Submitter::issue).
-fn issue(v: Verdict, row: Row, seq: u64, owners: &mut [u64], q: Request) -> Touched
+pub fn issue(v: Verdict, row: Row, seq: u64, owners: &mut [u64], q: Request) -> Touched
     ensures { λ r. ⌜ (r ≡ issued v row seq q) × (now (owners .exit) ≡ ownersAfter v q (now (owners .entry))) ⌝ }
 {
     match v {
@@ -55,40 +52,6 @@ fn issue(v: Verdict, row: Row, seq: u64, owners: &mut [u64], q: Request) -> Touc
                     buffer: q.buffer,
                 },
             }
-        }
-    }
-}
-
-// What a call does to all but the rows and the counts, and what it leaves of the row that it touches, which is given.
-pub fn touch(
-    call: Call,
-    row: Row,
-    counts: Counts,
-    rows: usize,
-    store: &mut [u64],
-    free: &mut [u64],
-    ready: &mut [u64],
-    owners: &mut [u64],
-    pool: &mut [u8],
-) -> Touched
-    ensures { λ r. ⌜ TouchesTo call row counts rows (now (store .entry)) (now (free .entry)) (now (ready .entry)) (now (owners .entry)) (now (pool .entry)) r (now (store .exit)) (now (free .exit)) (now (ready .exit)) (now (owners .exit)) (now (pool .exit)) ⌝ }
-{
-    let l = Lengths {
-        rows: rows as u64,
-        store: store.len() as u64,
-        free: free.len() as u64,
-        ready: ready.len() as u64,
-        owners: owners.len() as u64,
-        pool: pool.len() as u64,
-    };
-    match call {
-        Call::Write(q) => {
-            let v = submission::write(counts, l, store, free, owners, q);
-            issue(v, row, counts.submissions, owners, q)
-        }
-        Call::ReadPage(q) => {
-            let v = submission::read_page(counts, l, store, free, owners, q);
-            issue(v, row, counts.submissions, owners, q)
         }
     }
 }

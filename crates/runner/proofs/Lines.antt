@@ -9,7 +9,7 @@ use Rattle.model.specs.Memory.{Lent}
 use Rattle.trace.specs.declared.Submission.{Submission}
 use Rattle.trace.specs.declared.Line.{Line}
 use Rattle.trace.specs.declared.Line.the-variants.{Comment, Write, Read, Bad}
-use Rattle.trace.specs.Trace.{badText}
+use Rattle.texts.specs.Texts.{badText}
 use Rattle.runner.specs.Runner.{requestOf, Ran, Answers}
 
 module _ (line : Line) (n : ℕ) (c : Counts) (l : Lent) where

@@ -9,11 +9,11 @@ use Rattle.model.specs.declared.Request.{Request}
 use Rattle.model.specs.declared.Call.{Call}
 use Rattle.model.specs.declared.Call.the-variants.{Write as write, ReadPage as readPage}
 use Rattle.model.specs.Memory.{Lent}
-use Rattle.issue.specs.Touched.{CallsTo}
+use Rattle.queuecore.specs.Called.{CallsTo}
 use Rattle.trace.specs.declared.Submission.{Submission}
 use Rattle.trace.specs.declared.Line.{Line}
 use Rattle.trace.specs.declared.Line.the-variants.{Comment, Write, Read, Bad}
-use Rattle.trace.specs.Trace.{replyText, badText}
+use Rattle.texts.specs.Texts.{replyText, badText}
 
 -- the request of `w` and `r`: "handle 0, with its own volume, id and generation"
 unfoldable pub requestOf : Submission → Request

@@ -84,7 +84,7 @@ fn run(
     Answered {
         rows: held,
         counts: counted,
-        printed: trace::reply_text(reply, out),
+        printed: texts::reply_text(reply, out),
     }
 }
 
@@ -113,7 +113,7 @@ pub fn answer(
         Line::Bad => Answered {
             rows,
             counts,
-            printed: trace::bad_text(number, out),
+            printed: texts::bad_text(number, out),
         },
         Line::Write(s) => run(
             Call::Write(request(s)),

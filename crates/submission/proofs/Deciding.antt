@@ -38,7 +38,7 @@ use Rattle.step.proofs.Answers.{Passed}
 use Rattle.step.proofs.Memory.{lengths-are}
 use Rattle.liveregion.specs.Live.{InStore, regionOf, ShortError}
 use Rattle.liveregion.proofs.Laws.{live-laws}
-use Rattle.admission.specs.Asks.{Reads, Questions}
+use Rattle.asking.specs.Asks.{Reads, Questions}
 use Rattle.submission.specs.Decided.{lentOf, FirstPiece, DecidedBy, Decides, verdictWith, endWrapped}
 
 -- two words fewer

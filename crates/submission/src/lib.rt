@@ -67,7 +67,7 @@ pub fn write(
     if !store::same_lengths(store, l) {
         return Verdict::No(Refusal::Unfit);
     }
-    let asked = admission::ask_write(counts, store, owners, q);
+    let asked = asking::ask_write(counts, store, owners, q);
     let start = q.offset;
     let kind = Kind::Page {
         start,
@@ -90,7 +90,7 @@ pub fn read_page(
     if !store::same_lengths(store, l) {
         return Verdict::No(Refusal::Unfit);
     }
-    let asked = admission::ask_read(counts, store, owners, q);
+    let asked = asking::ask_read(counts, store, owners, q);
     let start = q.offset;
     let kind = Kind::Read {
         start,

@@ -12,7 +12,7 @@ use Rattle.model.specs.State.{freed}
 use Rattle.optable.specs.Counted.{acceptedIf}
 use Rattle.issue.specs.declared.Touched.{Touched}
 use Rattle.submission.specs.Decided.{lentOf}
-use Rattle.issue.specs.Touched.{CallsTo, TouchesTo}
+use Rattle.queuecore.specs.Called.{CallsTo, TouchesTo}
 use Rattle.submitter.proofs.Slices.{Words}
 
 -- what `touch` gives back, and leaves in the five slices

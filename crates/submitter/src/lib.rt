@@ -1,8 +1,8 @@
 // The calls that a host makes (store-io's submitter/mod.rs): the opening, and every call after it. Rows and counts are lent; what a call decides is
-// decided in issue, on values and words.
+// decided in queuecore, on values and words.
 ghost use mathlib.Core.Path.{_≡_};
 ghost use Rattle.submission.specs.Decided.{lentOf};
-ghost use Rattle.issue.specs.Touched.{CallsTo};
+ghost use Rattle.queuecore.specs.Called.{CallsTo};
 ghost use Rattle.submitter.specs.Open.{openedWith, OpensTo};
 use completion::Refusal;
 use completion::Reply;
@@ -68,7 +68,7 @@ pub fn call(
     let c = *counts;
     let at = optable::top(free, c.live) as usize;
     let row = optable::find(rows, at);
-    let t = issue::touch(call, row, c, rows.len(), store, free, ready, owners, pool);
+    let t = queuecore::touch(call, row, c, rows.len(), store, free, ready, owners, pool);
     optable::claim(rows, at, t.row);
     optable::accept(counts, t.accepts);
     t.reply

@@ -1,6 +1,3 @@
 -- What the proofs of this crate share.
-pub mod Fields
-pub mod Numbers
-pub mod Decimal
 pub mod Submissions
 pub mod Kept

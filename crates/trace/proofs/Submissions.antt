@@ -8,8 +8,9 @@ use lib.ListN.{length}
 use lib.Dec.{leb, eqb}
 use Rattle.layout.specs.Pick.{pick}
 use Rattle.layout.proofs.Tests.{and-left, and-right}
-use Rattle.trace.specs.declared.Field.{Field}
-use Rattle.trace.specs.Trace.{spaces, field, value, isNumber, numberIn, isSubmission, submissionIn}
+use Rattle.fields.specs.declared.Field.{Field}
+use Rattle.fields.specs.Fields.{spaces, field, value, isNumber, numberIn}
+use Rattle.trace.specs.Trace.{isSubmission, submissionIn}
 
 -- the flag is tested where it is a number
 flag : (is more : Bool) (v : ℕ) → (is && (more && leb (pick is v 0) 1)) ≡ (is && (more && leb v 1))

@@ -1,21 +1,11 @@
-// The lines of a trace, read and written: each function is the definition of its name in specs/Trace.antt.
+// The lines of a trace, read: each function is the definition of its name in specs/Trace.antt.
 mod lines;
 mod read;
-mod write;
 
 pub use lines::feed;
 pub use lines::finish;
 pub use lines::start;
 pub use read::read_line;
-pub use write::bad_text;
-pub use write::number_of;
-pub use write::reply_text;
-
-// What a field holds: whether it is a number, and which (0 where it is none).
-pub struct Field {
-    pub is: bool,
-    pub value: u64,
-}
 
 // The fields of `w` and `r`: "BUFFER POSITION LENGTH DURABLE TAG".
 pub struct Submission {

@@ -46,7 +46,7 @@ use Rattle.model.specs.declared.Call.{Call}
 use Rattle.model.specs.declared.Counts.{Counts}
 use Rattle.model.specs.declared.Row.{Row}
 use Rattle.submission.specs.Decided.{lentOf}
-use Rattle.issue.specs.Touched.{CallsTo}
+use Rattle.queuecore.specs.Called.{CallsTo}
 use Rattle.optable.proofs.Tally.{N}
 use Rattle.optable.proofs.Tally as Tally
 use Rattle.submitter.proofs.Slices.{Words, count}

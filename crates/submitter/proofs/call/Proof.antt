@@ -58,9 +58,9 @@ use Rattle.optable.proofs.claim.Met as claim-thm
 use Rattle.optable.proofs.accept.Symbol as accept-def
 use Rattle.optable.proofs.accept.Symbol.{name as #optable·accept}
 use Rattle.optable.proofs.accept.Met as accept-thm
-use Rattle.issue.proofs.touch.Symbol as touch-def
-use Rattle.issue.proofs.touch.Symbol.{name as #issue·touch}
-use Rattle.issue.proofs.touch.Met as touch-thm
+use Rattle.queuecore.proofs.touch.Symbol as touch-def
+use Rattle.queuecore.proofs.touch.Symbol.{name as #queuecore·touch}
+use Rattle.queuecore.proofs.touch.Met as touch-thm
 use Rattle.submitter.proofs.Calling.{Left, Did, Claimed, Accepted, calls-to}
 use Rattle.submitter.proofs.Passing.{Top, Find, Touch, Claim, Accept, to-top, goes-top, top-comes, to-find, goes-find, find-comes, pointer, Seen, Lent, CountsLeft, RowsLeft, Rest, PartsLeft, to-touch, goes-touch, TouchGave, touch-comes, to-claim, goes-claim, ClaimGave, claim-comes, to-accept, goes-accept, AcceptGave, accept-comes}
 use Rattle.submitter.proofs.Slices.{Words, count, Whole, Loan, lends, back}
@@ -159,7 +159,7 @@ module _ {M : Type 1} (𝓤 : URA M) (H : Heap 𝓤) (A : Atoms 𝓤) (W : Given
       -- [owners; pool; ready; free; store; rows; counts]
       nothing ! $ nothing ! $ move ! (0 ∷ 8 ∷ 7 ∷ 6 ∷ 5 ∷ 4 ∷ 2 ∷ 3 ∷ 1 ∷ []) $ group ! 9 $ frame ! $ owned ! Reply-row (Is Reply-row) (reply-makes 𝓤 H A) (x .touched .reply) _ is $ done !
 
-  module _ (C : Calls 𝓤 H) (Λ : Loops 𝓤 H) (fm : FmC 𝓤 H (W .laws) C) (known-top : Triple 𝓤 (C #optable·top) (Top 𝓤 H A mem run)) (known-find : Triple 𝓤 (C #optable·find) (Find 𝓤 H A mem run)) (known-touch : Triple 𝓤 (C #issue·touch) (Touch 𝓤 H A mem run))
+  module _ (C : Calls 𝓤 H) (Λ : Loops 𝓤 H) (fm : FmC 𝓤 H (W .laws) C) (known-top : Triple 𝓤 (C #optable·top) (Top 𝓤 H A mem run)) (known-find : Triple 𝓤 (C #optable·find) (Find 𝓤 H A mem run)) (known-touch : Triple 𝓤 (C #queuecore·touch) (Touch 𝓤 H A mem run))
       (known-claim : Triple 𝓤 (C #optable·claim) (Claim 𝓤 H A mem run)) (known-accept : Triple 𝓤 (C #optable·accept) (Accept 𝓤 H A mem run)) where
     -- `touch`, where the row's machine value is w
     abbrev to : Val → Touch 𝓤 H A mem run .Ghost
@@ -236,7 +236,7 @@ module _ {M : Type 1} (𝓤 : URA M) (H : Heap 𝓤) (A : Atoms 𝓤) (W : Given
         by ! (exits x rows′ c′ did claimed accepted (touched-reply (x .touched) v₁ is-t))))))))))))))))))))))))))))))))))))))))))))))))))))))))))
 
 module _ {M : Type 1} (𝓤 : URA M) (H : Heap 𝓤) (A : Atoms 𝓤) (W : Given 𝓤 H A) (mem : Memory → SProp 𝓤) (run : Routine → Fun 𝓤) (𝓣 : Tables 𝓤 H) (k₁ : Triple 𝓤 (𝓣 .C #optable·top) (Top 𝓤 H A mem run)) (k₂ : Triple 𝓤 (𝓣 .C #optable·find) (Find 𝓤 H A mem run))
-    (k₃ : Triple 𝓤 (𝓣 .C #issue·touch) (Touch 𝓤 H A mem run)) (k₄ : Triple 𝓤 (𝓣 .C #optable·claim) (Claim 𝓤 H A mem run)) (k₅ : Triple 𝓤 (𝓣 .C #optable·accept) (Accept 𝓤 H A mem run)) where
+    (k₃ : Triple 𝓤 (𝓣 .C #queuecore·touch) (Touch 𝓤 H A mem run)) (k₄ : Triple 𝓤 (𝓣 .C #optable·claim) (Claim 𝓤 H A mem run)) (k₅ : Triple 𝓤 (𝓣 .C #optable·accept) (Accept 𝓤 H A mem run)) where
   self-walks : Walks 𝓤 H A self.ended stayed (WpFn 𝓤 H (𝓣 .C) (𝓣 .Λ) code.function) (self.clauses 𝓤 H A mem run)
   self-walks =
       walked 𝓤 H A self.ended stayed (self.clauses 𝓤 H A mem run) (WpFn 𝓤 H (𝓣 .C) (𝓣 .Λ) code.function) (λ κs. (call-vals, (ptr-vals, (slice-vals, (slice-vals, (slice-vals, (slice-vals, (slice-vals, (slice-vals, tt)))))))))
@@ -286,6 +286,6 @@ call-spec 𝓤 H 𝓜 𝓖 𝓡 =
     (self-meets 𝓤 H (𝓖 .A) (givenOf 𝓤 H 𝓜 𝓖) (𝓜 .mem) (𝓡 .run) (tablesOf 𝓤 H 𝓜 (tables 𝓤 H 𝓜 𝓡 code.env))
     (cited 𝓤 H (Top 𝓤 H (𝓖 .A) (𝓜 .mem) (𝓡 .run)) 𝓜 𝓡 code.env #optable·top top-def.routine code.calls-optable·top (top-thm.met 𝓤 H 𝓜 𝓖 𝓡))
     (cited 𝓤 H (Find 𝓤 H (𝓖 .A) (𝓜 .mem) (𝓡 .run)) 𝓜 𝓡 code.env #optable·find find-def.routine code.calls-optable·find (find-thm.met 𝓤 H 𝓜 𝓖 𝓡))
-    (cited 𝓤 H (Touch 𝓤 H (𝓖 .A) (𝓜 .mem) (𝓡 .run)) 𝓜 𝓡 code.env #issue·touch touch-def.routine code.calls-issue·touch (touch-thm.met 𝓤 H 𝓜 𝓖 𝓡))
+    (cited 𝓤 H (Touch 𝓤 H (𝓖 .A) (𝓜 .mem) (𝓡 .run)) 𝓜 𝓡 code.env #queuecore·touch touch-def.routine code.calls-queuecore·touch (touch-thm.met 𝓤 H 𝓜 𝓖 𝓡))
     (cited 𝓤 H (Claim 𝓤 H (𝓖 .A) (𝓜 .mem) (𝓡 .run)) 𝓜 𝓡 code.env #optable·claim claim-def.routine code.calls-optable·claim (claim-thm.met 𝓤 H 𝓜 𝓖 𝓡))
     (cited 𝓤 H (Accept 𝓤 H (𝓖 .A) (𝓜 .mem) (𝓡 .run)) 𝓜 𝓡 code.env #optable·accept accept-def.routine code.calls-optable·accept (accept-thm.met 𝓤 H 𝓜 𝓖 𝓡)))

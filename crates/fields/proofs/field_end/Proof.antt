@@ -1,0 +1,62 @@
+-- `trace::field_end` meets its contract: the field is as long as the bytes passed and the field that begins at i. The measure is what is left.
+use mathlib.Core.Path.{_≡_, ap}
+use Prim.Native.Nat.{_+_, _-_, _≤_}
+use native.Mathlib.Omega.{arith}
+use lib.ListN.{length, drop}
+use Rattle.fields.specs.Fields.{field}
+use Rattle.fields.proofs.Fields.{field-more, field-ends, field-past}
+use Rattle.fields.proofs.field_end.Statement.{statement}
+use Rattle.fields.proofs.field_end.Tie as tie
+
+abbrev Inv-loop : tie.InvT-loop
+Inv-loop text from i₀ i = (i ≤ length text) × (i + length (field 0 (drop i text)) ≡ from + length (field 0 (drop from text)))
+
+abbrev μ-loop : tie.MeasureT-loop
+μ-loop text from i₀ i = length text - i
+
+loop-holds : tie.Need-loop-holds Inv-loop μ-loop
+loop-holds c = omega arith
+
+shared-slice-read-if1 : tie.Need-shared-slice-read-if1 Inv-loop μ-loop
+shared-slice-read-if1 c = omega arith
+
+returns : tie.Need-returns Inv-loop μ-loop
+returns c =
+    let head = c .before .before .before in
+    let text = head .before .args .text .now in
+    let i = head .loop .i in
+    omega (arith, ap length (field-ends text i (omega arith) (c .if1 .taken)))
+
+add-i : tie.Need-add-i Inv-loop μ-loop
+add-i c = omega arith
+
+loop-less : tie.Need-loop-less Inv-loop μ-loop
+loop-less c = omega arith
+
+loop-again : tie.Need-loop-again Inv-loop μ-loop
+loop-again c =
+    let head = c .before .before .before in
+    let text = head .before .args .text .now in
+    let i = head .loop .i in
+    omega (arith, field-more text i (omega arith) (c .if1 .left))
+
+returns-2 : tie.Need-returns-2 Inv-loop μ-loop
+returns-2 c =
+    let head = c .before in
+    let text = head .before .args .text .now in
+    let i = head .loop .i in
+    omega (arith, ap length (field-past 0 text i (omega arith)))
+
+pub field-end-spec : {M : Type 1} → statement M
+field-end-spec =
+    tie.close
+    (tie.spec
+    Inv-loop
+    μ-loop
+    loop-holds
+    shared-slice-read-if1
+    returns
+    add-i
+    loop-less
+    loop-again
+    returns-2)

@@ -1,0 +1,41 @@
+// How the calls meet (store-io's queue_core.rs): what a call does to all but the rows and the counts, and what it leaves of the row that it touches.
+ghost use Rattle.queuecore.specs.Called.{TouchesTo};
+use issue::Touched;
+use model::Call;
+use model::Counts;
+use model::Lengths;
+use model::Row;
+
+// One call, with the row that it touches given.
+pub fn touch(
+    call: Call,
+    row: Row,
+    counts: Counts,
+    rows: usize,
+    store: &mut [u64],
+    free: &mut [u64],
+    ready: &mut [u64],
+    owners: &mut [u64],
+    pool: &mut [u8],
+) -> Touched
+    ensures { λ r. ⌜ TouchesTo call row counts rows (now (store .entry)) (now (free .entry)) (now (ready .entry)) (now (owners .entry)) (now (pool .entry)) r (now (store .exit)) (now (free .exit)) (now (ready .exit)) (now (owners .exit)) (now (pool .exit)) ⌝ }
+{
+    let l = Lengths {
+        rows: rows as u64,
+        store: store.len() as u64,
+        free: free.len() as u64,
+        ready: ready.len() as u64,
+        owners: owners.len() as u64,
+        pool: pool.len() as u64,
+    };
+    match call {
+        Call::Write(q) => {
+            let v = submission::write(counts, l, store, free, owners, q);
+            issue::issue(v, row, counts.submissions, owners, q)
+        }
+        Call::ReadPage(q) => {
+            let v = submission::read_page(counts, l, store, free, owners, q);
+            issue::issue(v, row, counts.submissions, owners, q)
+        }
+    }
+}
