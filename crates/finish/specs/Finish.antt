@@ -1,0 +1,72 @@
+-- What the functions on values give, beside the rules of the crate step: a turn is told by its numbers, and the rules' fate follows from it and the bytes.
+use mathlib.Core.Path.{_≡_}
+use mathlib.Core.Bool.{Bool, true, false, _||_}
+use mathlib.Core.List.{List}
+use mathlib.Core.Option.{Option, none, some}
+use Prim.Native.Nat.{ℕ, _+_, _-_, _<_, _^_}
+use Rattle.layout.specs.Pick.{pick}
+use Rattle.regionmap.specs.declared.Position.{Position}
+use Rattle.regionmap.specs.Map.{Map}
+use Rattle.iobuf.specs.Turn.{turned}
+use Rattle.domain.specs.declared.FirstCause.{FirstCause}
+use Rattle.domain.specs.declared.Poisoned.{Poisoned}
+use Rattle.domain.specs.declared.Poisoned.the-variants.{Never, First}
+use Rattle.domain.specs.Domain.{needAfter}
+use Rattle.platform.specs.declared.Answer.{Answer}
+use Rattle.platform.specs.declared.Answer.the-variants.{Count, Error, Refused, RefusedWith}
+use Rattle.platform.specs.declared.Flushed.{Flushed}
+use Rattle.completion.specs.declared.WriteTicket.{WriteTicket}
+use Rattle.completion.specs.declared.Range.{Range}
+use Rattle.completion.specs.declared.Outcome.{Outcome}
+use Rattle.completion.specs.declared.Outcome.the-variants.{Written, Unknown}
+use Rattle.completion.specs.declared.Buffer.{Buffer}
+use Rattle.model.specs.declared.Opening.{Opening}
+use Rattle.model.specs.declared.Kind.{Kind}
+use Rattle.model.specs.declared.Kind.the-variants.{Page, Read}
+use Rattle.model.specs.declared.Split.{Split}
+use Rattle.model.specs.declared.Awaits.{Awaits}
+use Rattle.model.specs.declared.Awaits.the-variants.{Nothing, Piece, Flush}
+use Rattle.model.specs.declared.Row.{Row}
+use Rattle.model.specs.Opening.{Plan}
+use Rattle.liveregion.specs.declared.LiveRegion.{LiveRegion}
+use Rattle.step.specs.Rules.{pieceLength, Fate, Fate.away, Fate.awaits, Fate.ends, Fate.rejected}
+use Rattle.finish.specs.declared.Turn.{Turn}
+use Rattle.finish.specs.declared.Finish.{Finish}
+use Rattle.finish.specs.declared.Finish.the-variants.{Away, Next, Ended, Rejected}
+
+-- the cause with which the store is poisoned, if any
+unfoldable pub causeIs : Poisoned → Option FirstCause
+causeIs Never = none
+causeIs (First c) = some c
+
+-- the bytes after a turn
+unfoldable pub turnedBy : Turn → List ℕ → List ℕ
+turnedBy t bytes = turned (t .total) (t .by) bytes
+
+-- the fate that the values tell, of the bytes of the buffer
+unfoldable pub fateBy : Finish → List ℕ → Fate
+fateBy (Away f) bytes = away f
+fateBy (Next a t) bytes = awaits a (turnedBy t bytes)
+fateBy (Ended o b t c) bytes = ends o b (turnedBy t bytes) (causeIs c)
+fateBy (Rejected e b) bytes = rejected e b bytes
+
+-- a region's numbers with a map
+unfoldable pub planWith : LiveRegion → Map → Plan
+planWith g m = record { id = g .id; generation = g .generation; map = m }
+
+-- done + count is a number of 64 bits
+unfoldable pub CountFits : Split → Answer → Type 0
+CountFits s (Count n) = s .done + n < 2 ^ 64
+CountFits s (Error e media) = Unit {0}
+CountFits s Refused = Unit {0}
+CountFits s (RefusedWith e media) = Unit {0}
+
+-- what is supposed of a piece under way, as a sound table has it: the piece's length is the map's, and done + piece a number of 64 bits
+unfoldable pub PieceFits : LiveRegion → Map → ℕ → Awaits → Type 0
+PieceFits g m piece Nothing = Unit {0}
+PieceFits g m piece (Piece k s) = (piece ≡ pieceLength (planWith g m) k s) × (s .done + piece < 2 ^ 64)
+PieceFits g m piece (Flush t) = Unit {0}
+
+-- the values tell this fate, of any bytes
+abbrev pub Tells : Finish → (List ℕ → Fate) → Type 0
+Tells r fate = (bytes : List ℕ) → fateBy r bytes ≡ fate bytes
