@@ -1,6 +1,6 @@
 -- A call that is turned away leaves the state as it was. Of the rules' replies only that of a rejection could turn away, and a rejection is that of a piece.
 use mathlib.Core.Path.{_≡_, refl, ap}
-use mathlib.Core.Bool.{true, false}
+use mathlib.Core.Bool.{false}
 use mathlib.Core.List.{List, [], _∷_}
 use Prim.Native.Nat.{ℕ}
 use lib.Dec.{ltb}

@@ -1,16 +1,15 @@
--- What the rules make of an operation, whatever arrives. One that goes on has awaited a piece, keeps its range and awaits a next piece with bytes left, or a
+-- What the rules make of an operation, whatever arrives. One that goes on has awaited a piece, keeps its range and awaits the next piece, with bytes left, or a
 -- flush with its region's ticket. One that ends or is rejected hands back its own buffer or none. Its buffer has as many bytes as before. Only an awaited piece
 -- is rejected.
 use mathlib.Core.Path.{_≡_, refl}
 use mathlib.Core.Bool.{Bool, true, false, _&&_, _||_}
 use mathlib.Core.List.{List}
-use mathlib.Core.Option.{none}
 use Prim.Native.Nat.{ℕ, _+_, _-_, _<_}
 use borrow.Author.Tests.{ltb-true}
 use lib.Dec.{ltb}
 use lib.ListN.{length}
-use Rattle.layout.specs.Pick.{pick}
 use Rattle.layout.proofs.Tests.{and-right}
+use Rattle.regionmap.specs.declared.Position.{Position}
 use Rattle.iobuf.proofs.Laws.{turn-laws}
 use Rattle.domain.specs.declared.Poisoned.{Poisoned}
 use Rattle.platform.specs.declared.Answer.{Answer}
@@ -26,7 +25,7 @@ use Rattle.model.specs.declared.Awaits.the-variants.{Nothing, Piece, Flush}
 use Rattle.model.specs.declared.Row.{Row}
 use Rattle.model.specs.State.{Region, State, awaiting}
 use Rattle.step.specs.Rules.{firstOf, lastOf, Input, Input.answered, Input.flushed, Fate, Fate.away, Fate.awaits, Fate.ends, Fate.rejected}
-use Rattle.step.specs.Rules.{bufferAs, turnedBack, isWritten, ticketOf, writtenAs, lastPiece, abovePiece, firstRefused, isWhole, goesOn, splitAfter, pieceAnswered, pieceLength}
+use Rattle.step.specs.Rules.{bufferAs, turnedBack, isWritten, readLength, ticketOf, writtenAs, lastPiece, abovePiece, firstRefused, isWhole, goesOn, splitAfter, pieceAnswered, pieceLength}
 use Rattle.step.specs.Rules.{flushEnds, answerRules, flushRules, rules}
 use Rattle.step.specs.Questions.{regionAt}
 use Rattle.step.specs.Step.{bytesAt, planOf, fateOf}
@@ -45,9 +44,18 @@ AwaitsPiece Nothing = ⊥
 AwaitsPiece (Piece k s) = Unit {0}
 AwaitsPiece (Flush t) = ⊥
 
+-- what an operation that awaits a piece may await next: a piece of the same kind, behind this one, or, of a write, its flush
+unfoldable pub Follows : Region → Awaits → Awaits → Type 0
+Follows g Nothing now = ⊥
+Follows g (Piece k s) Nothing = ⊥
+Follows g (Piece k s) (Piece k′ s′) = (k′ ≡ k) × (s′ ≡ splitAfter (pieceLength (planOf g) k s) s)
+Follows g (Piece (Page a b) s) (Flush t) = Unit {0}
+Follows g (Piece (Read a b) s) (Flush t) = ⊥
+Follows g (Flush t) now = ⊥
+
 -- an operation that awaited something goes on and awaits another
 pub record Onward (o : Opening) (g : Region) (was now : Awaits) : Type 0 where
-  pub piece : AwaitsPiece was
+  pub follows : Follows g was now
   pub live : awaiting now ≡ 1
   pub start : rangeStart now ≡ rangeStart was
   pub end : rangeEnd now ≡ rangeEnd was
@@ -81,16 +89,15 @@ goes-on-left piece s answer back e =
 
 module _ (o : Opening) (g : Region) where
   -- the next piece
-  next-piece : (k : Kind) (s : Split) (piece : ℕ) → s .done + piece < s .total → Onward o g (Piece k s) (Piece k (splitAfter piece s))
-  unfolding AwaitsPiece awaiting rangeStart rangeEnd SplitFits TicketFits splitAfter
-  next-piece (Page a b) s piece left = record { piece = tt; live = refl; start = refl; end = refl; split = λ f. (f .0, left); ticket = tt }
-  next-piece (Read a b) s piece left = record { piece = tt; live = refl; start = refl; end = refl; split = λ f. (f .0, left); ticket = tt }
+  next-piece : (k : Kind) (s : Split) → s .done + pieceLength (planOf g) k s < s .total → Onward o g (Piece k s) (Piece k (splitAfter (pieceLength (planOf g) k s) s))
+  unfolding Follows awaiting rangeStart rangeEnd SplitFits TicketFits splitAfter
+  next-piece (Page a b) s left = record { follows = (refl, refl); live = refl; start = refl; end = refl; split = λ f. (f .0, left); ticket = tt }
+  next-piece (Read a b) s left = record { follows = (refl, refl); live = refl; start = refl; end = refl; split = λ f. (f .0, left); ticket = tt }
 
   -- the flush of a write
-  its-flush : (k : Kind) (s : Split) (flushes : ℕ) → Onward o g (Piece k s) (Flush (ticketOf o (planOf g) k flushes))
-  unfolding AwaitsPiece awaiting rangeStart rangeEnd SplitFits TicketFits ticketOf planOf firstOf lastOf
-  its-flush (Page a b) s flushes = record { piece = tt; live = refl; start = refl; end = refl; split = λ f. tt; ticket = (refl, refl, refl, refl) }
-  its-flush (Read a b) s flushes = record { piece = tt; live = refl; start = refl; end = refl; split = λ f. tt; ticket = (refl, refl, refl, refl) }
+  its-flush : (a b : Position) (s : Split) (flushes : ℕ) → Onward o g (Piece (Page a b) s) (Flush (ticketOf o (planOf g) (Page a b) flushes))
+  unfolding Follows awaiting rangeStart rangeEnd SplitFits TicketFits ticketOf planOf firstOf lastOf
+  its-flush a b s flushes = record { follows = tt; live = refl; start = refl; end = refl; split = λ f. tt; ticket = (refl, refl, refl, refl) }
 
   -- ---- the rules
 
@@ -98,36 +105,37 @@ module _ (o : Opening) (g : Region) where
     abbrev Fits : Awaits → Fate → Type 0
     Fits was = Fitting o g was (r .buffer) bytes
 
-    written-fits : (k : Kind) (s : Split) (flushes : ℕ) (buf : Buffer) (bytes′ : List ℕ) → Own (r .buffer) buf → length bytes′ ≡ length bytes
-        → Fits (Piece k s) (writtenAs o forced first (r .durable) (ticketOf o (planOf g) k flushes) buf bytes′)
+    written-fits : (a b : Position) (s : Split) (flushes : ℕ) (buf : Buffer) (bytes′ : List ℕ) → Own (r .buffer) buf → length bytes′ ≡ length bytes
+        → Fits (Piece (Page a b) s) (writtenAs o forced first (r .durable) (ticketOf o (planOf g) (Page a b) flushes) buf bytes′)
     unfolding writtenAs Fitting
-    written-fits k s flushes buf bytes′ own same =
-        by-pick (r .durable) (Fits (Piece k s))
-        (λ d. by-pick (o .flush || forced) (Fits (Piece k s)) (λ f. (its-flush k s flushes, same)) (λ f. (own, same)))
+    written-fits a b s flushes buf bytes′ own same =
+        by-pick (r .durable) (Fits (Piece (Page a b) s))
+        (λ d. by-pick (o .flush || forced) (Fits (Piece (Page a b) s)) (λ f. (its-flush a b s flushes, same)) (λ f. (own, same)))
         (λ d. (own, same))
 
     last-fits : (k : Kind) (s : Split) (answer : Answer) (back : Bool) (flushes : ℕ) → Fits (Piece k s) (lastPiece o (planOf g) forced first r k s bytes answer back flushes)
     unfolding lastPiece Fitting
-    last-fits (Read a b) s answer back flushes = (own-buffer back (r .buffer) _, turned-back-length back s bytes)
+    last-fits (Read a b) s answer back flushes = (own-buffer back (r .buffer) (readLength s answer), turned-back-length back s bytes)
     last-fits (Page a b) s answer back flushes =
         let own = own-buffer back (r .buffer) (s .total) in
         let same = turned-back-length back s bytes in
-        by-pick (isWritten s answer back) (Fits (Piece (Page a b) s)) (λ w. written-fits (Page a b) s flushes _ _ own same) (λ w. (own, same))
+        by-pick (isWritten s answer back) (Fits (Piece (Page a b) s)) (λ w. written-fits a b s flushes _ _ own same) (λ w. (own, same))
 
-    piece-fits : (k : Kind) (s : Split) (piece : ℕ) (answer : Answer) (back : Bool) (flushes : ℕ)
-        → Fits (Piece k s) (pieceAnswered o (planOf g) forced first r k s piece bytes answer back flushes)
+    piece-fits : (k : Kind) (s : Split) (answer : Answer) (back : Bool) (flushes : ℕ)
+        → Fits (Piece k s) (pieceAnswered o (planOf g) forced first r k s (pieceLength (planOf g) k s) bytes answer back flushes)
     unfolding pieceAnswered Fitting AwaitsPiece
-    piece-fits k s piece answer back flushes =
+    piece-fits k s answer back flushes =
+        let piece = pieceLength (planOf g) k s in
         by-pick (abovePiece piece answer) (Fits (Piece k s)) (λ a. tt)
         λ a. by-pick (firstRefused s answer) (Fits (Piece k s)) (λ f. (tt, own-buffer back (r .buffer) (s .total), refl))
         λ f. by-pick (goesOn piece s answer back) (Fits (Piece k s))
-        (λ w. (next-piece k s piece (goes-on-left piece s answer back w), turn-laws .length-kept (s .total) piece bytes))
+        (λ w. (next-piece k s (goes-on-left piece s answer back w), turn-laws .length-kept (s .total) piece bytes))
         λ w. last-fits k s answer back flushes
 
     answer-fits : (was : Awaits) (answer : Answer) (back : Bool) (flushes : ℕ) → Fits was (answerRules o (planOf g) forced first r bytes answer back flushes was)
     unfolding answerRules Fitting
     answer-fits Nothing answer back flushes = tt
-    answer-fits (Piece k s) answer back flushes = piece-fits k s (pieceLength (planOf g) k s) answer back flushes
+    answer-fits (Piece k s) answer back flushes = piece-fits k s answer back flushes
     answer-fits (Flush t) answer back flushes = tt
 
     flush-fits : (was : Awaits) (result : Flushed) → Fits was (flushRules o r bytes result was)

@@ -1,4 +1,4 @@
--- A live row is freed: it goes on top of the free stack, at a generation, with a completion or none, and its buffer goes to the completion, to the host or is
+-- A live row is freed: it goes on top of the free stack, at a generation, with a completion or none, and its buffer goes to the completion or to the host, or is
 -- lost. The table stays sound.
 use mathlib.Core.Path.{_≡_, refl, _∙_}
 use mathlib.Core.Logic.{_≢_}
@@ -19,9 +19,9 @@ use Rattle.step.specs.Sound.{rowHolds, holds, readyHold, tableHas, Sound
 use Rattle.step.proofs.Places.{by-place}
 use Rattle.step.proofs.Counts.{times-same, times-other, holds-none, holds-own, holds-other, ready-join, back-holds-own, back-holds-other, has-most}
 use Rattle.step.proofs.Fates.{Own}
+use Rattle.step.proofs.Buffers.{filled-pool}
 use Rattle.step.proofs.Marked.{keeps-besides}
 use Rattle.step.proofs.Replaced.{Change, changed, Fits, live-replaced, hold-replaced, keeps-changed}
-use Rattle.step.proofs.Buffers.{filled-pool}
 
 -- where the buffer b goes: to one completion, if the table keeps it, or to none
 pub record Goes (b : ℕ) (more : List Completion) (who : Owner) : Type 0 where
@@ -45,13 +45,13 @@ unfolding keptBy readyHold tableHas
 goes-back b (Back k n) = record { few = omega arith; own = refl; other = λ j ne. refl }
 goes-back b Lost = record { few = omega arith; own = refl; other = λ j ne. refl }
 
+freed-none : (g : ℕ) → awaiting (freed g .awaits) ≡ 0
+unfolding freed awaiting
+freed-none g = refl
+
 module _ (s : State) (i : Sound s) (r : ℕ) (below : r < s .settings .depth) (live : awaiting (rowAt s r .awaits) ≡ 1) where
   abbrev row : Row
   row = rowAt s r
-
-  freed-none : (g : ℕ) → awaiting (freed g .awaits) ≡ 0
-  unfolding freed awaiting
-  freed-none g = refl
 
   pub some-live : 1 ≤ s .counts .live
   some-live = omega (arith, live-replaced s i r below (freed 0), freed-none 0, i .live)

@@ -26,7 +26,7 @@ module _ (s : State) (i : Sound s) (r : ℕ) (below : r < s .settings .depth) (l
     abbrev change : Change
     change = record { row = awaitsNow row a; counts = s .counts; free = s .free; ready = s .ready; owners = s .owners }
 
-    -- the two rows are as much awaited, and hold the same buffer
+    -- the row is live as before, and holds the same buffer
     same-live : awaiting a ≡ awaiting (row .awaits)
     same-live = w .live ∙ sym live
 

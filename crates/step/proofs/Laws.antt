@@ -1,8 +1,9 @@
 -- The laws of every step. Each call keeps a sound table: of a submission that is not turned away every question was answered yes, and its state is the
--- accepted one; of the other calls see the files named below. The pieces issued are the map's, by induction on their number.
+-- accepted one (Accepted); an answer or a flush result settles its row (Settled), a taking gives a buffer back (TakenOut), and of a setting or a report
+-- soundness does not speak (Marked). The pieces issued are the map's, by induction on their number.
 use mathlib.Core.Path.{_≡_, refl, ap}
-use mathlib.Core.Bool.{Bool, true, false}
-use mathlib.Core.List.{List, map}
+use mathlib.Core.Bool.{Bool, false}
+use mathlib.Core.List.{map}
 use Prim.Native.Nat.{ℕ, zero, suc, _+_, _-_}
 use native.Mathlib.Nat.{add-zero, sub-zero}
 use native.Mathlib.Omega.{arith}
@@ -41,7 +42,7 @@ use Rattle.step.proofs.Transfers.{one-write, one-read}
 use Rattle.step.proofs.Answers.{Passed, write-passed, read-passed}
 use Rattle.step.proofs.Marked.{keeps-besides}
 use Rattle.step.proofs.Accepted.{Covers, keeps-accepted}
-use Rattle.step.proofs.Answered.{keeps-under}
+use Rattle.step.proofs.Settled.{keeps-under}
 use Rattle.step.proofs.TakenOut.{keeps-taken}
 use Rattle.step.proofs.Away.{turned-away}
 use Rattle.step.proofs.Opened.{opened-sound}

@@ -13,7 +13,7 @@ pub mod Accepted
 pub mod Going
 pub mod Freed
 pub mod TakenOut
-pub mod Answered
+pub mod Settled
 pub mod Away
 pub mod Opened
 pub mod Memory

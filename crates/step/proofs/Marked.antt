@@ -1,7 +1,7 @@
 -- Soundness does not speak of the regions' marks, of the poison, nor of what the pool's bytes are: tables that differ only there are sound together.
 use mathlib.Core.Path.{_≡_, refl, sym, ap, _∙_}
 use mathlib.Core.List.{List, map}
-use Prim.Native.Nat.{ℕ, _≤_, _<_}
+use Prim.Native.Nat.{ℕ, _≤_}
 use native.Mathlib.Omega.{arith}
 use lib.ListN.{length, getD, length-map, List·getD-map}
 use Rattle.domain.specs.declared.Poisoned.{Poisoned}
@@ -9,7 +9,7 @@ use Rattle.model.specs.declared.Opening.{Opening}
 use Rattle.model.specs.declared.Awaits.{Awaits}
 use Rattle.model.specs.declared.Awaits.the-variants.{Nothing, Piece, Flush}
 use Rattle.model.specs.declared.Row.{Row}
-use Rattle.model.specs.State.{Region, noRegion, State, awaiting}
+use Rattle.model.specs.State.{Region, noRegion, State}
 use Rattle.model.specs.Opening.{Plan}
 use Rattle.step.specs.Questions.{regionAt}
 use Rattle.step.specs.Step.{rowAt, planOf}

@@ -1,6 +1,6 @@
 -- One row of a table is replaced, and with it the counts, the free stack, the completions and the owners change: the table stays sound where the change fits.
 -- A row that is taken, goes on or is freed is such a change.
-use mathlib.Core.Path.{_≡_, refl, sym, ap, _∙_}
+use mathlib.Core.Path.{_≡_, refl, sym, _∙_}
 use mathlib.Core.Logic.{_≢_}
 use mathlib.Core.List.{List}
 use Prim.Native.Nat.{ℕ, _+_, _≤_, _<_, _^_}
@@ -8,8 +8,6 @@ use native.Mathlib.Omega.{arith}
 use lib.ListN.{length, getD, set, length-set}
 use Rattle.completion.specs.declared.Completion.{Completion}
 use Rattle.model.specs.declared.Counts.{Counts}
-use Rattle.model.specs.declared.Awaits.{Awaits}
-use Rattle.model.specs.declared.Awaits.the-variants.{Nothing, Piece, Flush}
 use Rattle.model.specs.declared.Row.{Row}
 use Rattle.model.specs.State.{Owner, Owner.lost, State, freed, awaiting, liveRows}
 use Rattle.step.specs.Questions.{regionAt}
