@@ -16,7 +16,7 @@ word l n k i j h e = getD-take n (drop k l) i 0 h ∙ getD-drop k l i 0 ∙ ap (
 
 pub live-at : (store : List ℕ) (h : ℕ)
     → liveOf (regionOf store h)
-    ≡ record { id = getD store (48 + 70 * h) 0; generation = getD store (48 + 70 * h + 1) 0; «data» = getD store (48 + 70 * h + 4) 0; gate = gateIn (getD store (24 + 3 * h) 0); «read_only» = flag (getD store (25 + 3 * h) 0) }
+    ≡ record { id = getD store (48 + 70 * h) 0; generation = getD store (48 + 70 * h + 1) 0; «data» = getD store (48 + 70 * h + 4) 0; gate = gateIn (getD store (24 + 3 * h) 0); «read_only» = flag (getD store (25 + 3 * h) 0); forced = flag (getD store (26 + 3 * h) 0) }
 unfolding liveOf regionOf regionIn planIn mapIn
 live-at store h = λ i. record {
   id = word store 70 (48 + 70 * h) 0 (48 + 70 * h) (lit< tt) (omega arith) i;
@@ -24,4 +24,5 @@ live-at store h = λ i. record {
   «data» = (getD-drop 2 (take 70 (drop (48 + 70 * h) store)) 2 0 ∙ word store 70 (48 + 70 * h) 4 (48 + 70 * h + 4) (lit< tt) (omega arith)) i;
   gate = gateIn (word store 3 (24 + 3 * h) 0 (24 + 3 * h) (lit< tt) (omega arith) i);
   «read_only» = flag (word store 3 (24 + 3 * h) 1 (25 + 3 * h) (lit< tt) (omega arith) i);
+  forced = flag (word store 3 (24 + 3 * h) 2 (26 + 3 * h) (lit< tt) (omega arith) i);
 }

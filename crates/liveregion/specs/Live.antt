@@ -20,7 +20,7 @@ unfoldable pub regionOf : List ℕ → ℕ → Region
 regionOf store h = regionIn (take 3 (drop (24 + 3 * h) store)) (take 70 (drop (48 + 70 * h) store))
 
 unfoldable pub liveOf : Region → LiveRegion
-liveOf g = record { id = g .id; generation = g .generation; «data» = g .map .dataLength; gate = g .gate; «read_only» = g .readOnly }
+liveOf g = record { id = g .id; generation = g .generation; «data» = g .map .dataLength; gate = g .gate; «read_only» = g .readOnly; forced = g .forced }
 
 -- the poison's error, if there is one, has 32 bits
 unfoldable pub ShortError : List ℕ → Type 0

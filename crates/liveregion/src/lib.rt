@@ -18,6 +18,7 @@ pub struct LiveRegion {
     pub data: u64,
     pub gate: Gate,
     pub read_only: bool,
+    pub forced: bool,
 }
 
 // A gate in a word.
@@ -41,6 +42,7 @@ pub fn region_at(store: &[u64], handle: u64) -> LiveRegion
         data: 0,
         gate: Gate::Open,
         read_only: false,
+        forced: false,
     };
     if 8 <= handle {
         return blank;
@@ -56,6 +58,7 @@ pub fn region_at(store: &[u64], handle: u64) -> LiveRegion
         data: store[at + 4],
         gate: gate_of(store[24 + 3 * h]),
         read_only: store[25 + 3 * h] != 0,
+        forced: store[26 + 3 * h] != 0,
     }
 }
 

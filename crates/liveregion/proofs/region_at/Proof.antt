@@ -73,11 +73,23 @@ mul-t26 c = search needs
 shared-slice-read-t28 : tie.Need-shared-slice-read-t28
 shared-slice-read-t28 c = search needs
 
+mul-t29 : tie.Need-mul-t29
+mul-t29 c = search needs
+
+add-t30 : tie.Need-add-t30
+add-t30 c = search needs
+
+mul-t31 : tie.Need-mul-t31
+mul-t31 c = search needs
+
+shared-slice-read-t33 : tie.Need-shared-slice-read-t33
+shared-slice-read-t33 c = search needs
+
 returns-3 : tie.Need-returns-3
 unfolding flag
 returns-3 c =
-    let a = c .before .before .before .before .before .before .before .before .before .args in
-    λ inside. rw (c .before .gate-of .ensures) (sym (live-at (a .store .now) (a .handle)))
+    let a = c .before .before .before .before .before .before .before .before .before .before .args in
+    λ inside. rw (c .before .before .gate-of .ensures) (sym (live-at (a .store .now) (a .handle)))
 
 pub region-at-spec : {M : Type 1} → statement M
 region-at-spec =
@@ -105,4 +117,8 @@ region-at-spec =
     add-t25
     mul-t26
     shared-slice-read-t28
+    mul-t29
+    add-t30
+    mul-t31
+    shared-slice-read-t33
     returns-3)

@@ -30,9 +30,9 @@ use Rattle.model.specs.declared.Row.{Row}
 use Rattle.model.specs.Opening.{Plan}
 use Rattle.liveregion.specs.declared.LiveRegion.{LiveRegion}
 use Rattle.step.specs.Rules.{pieceLength, Fate, Fate.away, Fate.awaits, Fate.ends, Fate.rejected}
-use Rattle.finish.specs.declared.Turn.{Turn}
-use Rattle.finish.specs.declared.Finish.{Finish}
-use Rattle.finish.specs.declared.Finish.the-variants.{Away, Next, Ended, Rejected}
+use Rattle.settle.specs.declared.Turn.{Turn}
+use Rattle.settle.specs.declared.Finished.{Finished}
+use Rattle.settle.specs.declared.Finished.the-variants.{Away, Next, Ended, Rejected}
 
 -- the cause with which the store is poisoned, if any
 unfoldable pub causeIs : Poisoned → Option FirstCause
@@ -44,7 +44,7 @@ unfoldable pub turnedBy : Turn → List ℕ → List ℕ
 turnedBy t bytes = turned (t .total) (t .by) bytes
 
 -- the fate that the values tell, of the bytes of the buffer
-unfoldable pub fateBy : Finish → List ℕ → Fate
+unfoldable pub fateBy : Finished → List ℕ → Fate
 fateBy (Away f) bytes = away f
 fateBy (Next a t) bytes = awaits a (turnedBy t bytes)
 fateBy (Ended o b t c) bytes = ends o b (turnedBy t bytes) (causeIs c)
@@ -68,5 +68,5 @@ PieceFits g m piece (Piece k s) = (piece ≡ pieceLength (planWith g m) k s) × 
 PieceFits g m piece (Flush t) = Unit {0}
 
 -- the values tell this fate, of any bytes
-abbrev pub Tells : Finish → (List ℕ → Fate) → Type 0
+abbrev pub Tells : Finished → (List ℕ → Fate) → Type 0
 Tells r fate = (bytes : List ℕ) → fateBy r bytes ≡ fate bytes
