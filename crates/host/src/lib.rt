@@ -1,8 +1,7 @@
 // A table whose rows and counts a program in Rattle holds by value: they are lent to the submitter's calls here, so that the program needs no
 // reference to a row. 64 rows, whatever the depth: row memory may be longer than the depth.
 ghost use mathlib.Core.Path.{_≡_};
-ghost use Rattle.submission.specs.Decided.{lentOf};
-ghost use Rattle.queuecore.specs.Called.{CallsTo};
+ghost use Rattle.called.specs.Called.{lentOf, CallsTo};
 ghost use Rattle.submitter.specs.Open.{OpensTo};
 use completion::Reply;
 use model::Call;

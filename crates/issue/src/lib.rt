@@ -3,17 +3,12 @@
 ghost use mathlib.Core.Path.{_≡_};
 ghost use lib.ListN.{set};
 ghost use Rattle.issue.specs.Touched.{issued, ownersAfter};
+use called::Touched;
 use completion::Reply;
 use model::Request;
 use model::Row;
 use model::Verdict;
-
-// What a call leaves of the row that it touches, whether the counts accept an operation, and the reply.
-pub struct Touched {
-    pub row: Row,
-    pub accepts: bool,
-    pub reply: Reply,
-}
+use optable::Frees;
 
 // The buffer goes to the table.
 fn lend(owners: &mut [u64], buffer: u64)
@@ -30,11 +25,7 @@ pub fn issue(v: Verdict, row: Row, seq: u64, owners: &mut [u64], q: Request) -> 
     ensures { λ r. ⌜ (r ≡ issued v row seq q) × (now (owners .exit) ≡ ownersAfter v q (now (owners .entry))) ⌝ }
 {
     match v {
-        Verdict::No(refusal) => Touched {
-            row,
-            accepts: false,
-            reply: Reply::No(refusal),
-        },
+        Verdict::No(refusal) => called::away(row, refusal),
         Verdict::Accept {
             row: at,
             kind,
@@ -45,6 +36,7 @@ pub fn issue(v: Verdict, row: Row, seq: u64, owners: &mut [u64], q: Request) -> 
             Touched {
                 row: optable::start(row.generation, seq, kind, q),
                 accepts: true,
+                frees: Frees::Nothing,
                 reply: Reply::Piece {
                     qtag: optable::queue_tag(at, row.generation),
                     offset,

@@ -1,14 +1,14 @@
 // The rows, as a lent slice of records, and the counts (store-io's optable.rs: Table).
 ghost use mathlib.Core.Path.{_≡_};
 ghost use mathlib.Core.Bool.{not};
-ghost use Prim.Native.Nat.{_+_, min};
+ghost use Prim.Native.Nat.{_+_, _-_, min};
 ghost use lib.ListN.{length, getD, set};
 ghost use lib.Dec.{ltb};
 ghost use Rattle.regionmap.specs.Words.{wrap64};
 ghost use Rattle.model.specs.State.{freed};
 ghost use Rattle.model.specs.Memory.{rowsOpened};
 ghost use Rattle.step.specs.Step.{queueTag, claimedBy, durableAs};
-ghost use Rattle.optable.specs.Counted.{acceptedIf};
+ghost use Rattle.optable.specs.Counted.{acceptedIf, releasedBy};
 use model::Awaits;
 use model::Counts;
 use model::Kind;
@@ -119,6 +119,52 @@ pub fn accepted(c: Counts, accepts: bool) -> Counts
     } else {
         c
     }
+}
+
+// What a call frees of the counts: nothing; a live row whose first piece was refused; a live row whose completion is ready; a completion that is taken.
+pub enum Frees {
+    Nothing,
+    Rejected,
+    Completed,
+    Taken,
+}
+
+// One less, and none below 0.
+fn one_less(n: u64) -> u64
+    ensures { λ r. ⌜ r ≡ n - 1 ⌝ }
+{
+    if n == 0 { 0 } else { n - 1 }
+}
+
+// The counts with what a call frees.
+pub fn released(c: Counts, r: Frees) -> Counts
+    ensures { λ r′. ⌜ r′ ≡ releasedBy r c ⌝ }
+{
+    match r {
+        Frees::Nothing => c,
+        Frees::Rejected => Counts {
+            live: one_less(c.live),
+            ready: c.ready,
+            submissions: c.submissions,
+        },
+        Frees::Completed => Counts {
+            live: one_less(c.live),
+            ready: std::num::wrapping_add_u64(c.ready, 1),
+            submissions: c.submissions,
+        },
+        Frees::Taken => Counts {
+            live: c.live,
+            ready: one_less(c.ready),
+            submissions: c.submissions,
+        },
+    }
+}
+
+// The counts, lent on and updated (live and ready of Table::release, abort and publish).
+pub fn release(counts: &mut Counts, r: Frees)
+    ensures { λ _. ⌜ now (counts .exit) ≡ releasedBy r (now (counts .entry)) ⌝ }
+{
+    *counts = released(*counts, r);
 }
 
 // The counts, lent on and updated (live and next_seq of Table::start).

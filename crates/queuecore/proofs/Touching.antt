@@ -34,11 +34,11 @@ use Rattle.step.proofs.Answers.{Passed}
 use Rattle.step.proofs.Taken as stack
 use Rattle.step.proofs.Memory.{storedIn, taken-in, lengths-same}
 use Rattle.optable.specs.Counted.{acceptedIf}
-use Rattle.issue.specs.declared.Touched.{Touched}
-use Rattle.submission.specs.Decided.{lentOf, Decides}
+use Rattle.called.specs.declared.Touched.{Touched}
+use Rattle.submission.specs.Decided.{Decides}
+use Rattle.called.specs.Called.{lentOf, Beyond, CallsTo, TouchesTo}
 use Rattle.submission.proofs.Deciding.{top-is}
 use Rattle.issue.specs.Touched.{issued, ownersAfter}
-use Rattle.queuecore.specs.Called.{Beyond, CallsTo, TouchesTo}
 
 -- a piece turns nobody away, and a refusal accepts nobody
 abbrev Away : Reply → Type 0

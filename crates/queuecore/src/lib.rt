@@ -1,6 +1,6 @@
 // How the calls meet (store-io's queue_core.rs): what a call does to all but the rows and the counts, and what it leaves of the row that it touches.
-ghost use Rattle.queuecore.specs.Called.{TouchesTo};
-use issue::Touched;
+ghost use Rattle.called.specs.Called.{TouchesTo};
+use called::Touched;
 use model::Call;
 use model::Counts;
 use model::Lengths;

@@ -9,7 +9,7 @@ use Rattle.model.specs.declared.Request.{Request}
 use Rattle.model.specs.declared.Call.{Call}
 use Rattle.model.specs.declared.Call.the-variants.{Write as write, ReadPage as readPage}
 use Rattle.model.specs.Memory.{Lent}
-use Rattle.queuecore.specs.Called.{CallsTo}
+use Rattle.called.specs.Called.{CallsTo}
 use Rattle.trace.specs.declared.Submission.{Submission}
 use Rattle.trace.specs.declared.Line.{Line}
 use Rattle.trace.specs.declared.Line.the-variants.{Comment, Write, Read, Bad}

@@ -3,7 +3,7 @@
 ghost use mathlib.Core.Path.{_≡_};
 ghost use Prim.Native.Nat.{_≤_};
 ghost use lib.ListN.{take};
-ghost use Rattle.submission.specs.Decided.{lentOf};
+ghost use Rattle.called.specs.Called.{lentOf};
 ghost use Rattle.runner.specs.Runner.{requestOf, Ran, Answers};
 ghost use Rattle.step.specs.Figures.{figuresOpening};
 use completion::Reply;

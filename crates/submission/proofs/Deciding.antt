@@ -39,7 +39,8 @@ use Rattle.step.proofs.Memory.{lengths-are}
 use Rattle.liveregion.specs.Live.{InStore, regionOf, ShortError}
 use Rattle.liveregion.proofs.Laws.{live-laws}
 use Rattle.asking.specs.Asks.{Reads, Questions}
-use Rattle.submission.specs.Decided.{lentOf, FirstPiece, DecidedBy, Decides, verdictWith, endWrapped}
+use Rattle.submission.specs.Decided.{FirstPiece, DecidedBy, Decides, verdictWith, endWrapped}
+use Rattle.called.specs.Called.{lentOf}
 
 -- two words fewer
 two-less : (ws : List ℕ) → drop 2 (take 70 ws) ≡ take 68 (drop 2 ws)

@@ -23,9 +23,7 @@ use Rattle.model.specs.Memory.{Lent, lengthsOf, sameLengths, stateIn}
 use Rattle.model.specs.Laws.{mapWordsAt}
 use Rattle.step.specs.Sound.{Sound}
 use Rattle.liveregion.specs.Live.{InStore}
-
-abbrev pub lentOf : List Row → List ℕ → List ℕ → List ℕ → List ℕ → List ℕ → Lent
-lentOf rows store free ready owners pool = record { rows = rows; store = store; free = free; ready = ready; owners = owners; pool = pool }
+use Rattle.called.specs.Called.{lentOf}
 
 -- the map's piece for a request, of the region at its handle
 abbrev pub FirstPiece : List ℕ → Request → FoundPiece → Type 0

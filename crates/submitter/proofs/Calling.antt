@@ -10,9 +10,8 @@ use Rattle.model.specs.declared.Counts.{Counts}
 use Rattle.model.specs.declared.Row.{Row}
 use Rattle.model.specs.State.{freed}
 use Rattle.optable.specs.Counted.{acceptedIf}
-use Rattle.issue.specs.declared.Touched.{Touched}
-use Rattle.submission.specs.Decided.{lentOf}
-use Rattle.queuecore.specs.Called.{CallsTo, TouchesTo}
+use Rattle.called.specs.declared.Touched.{Touched}
+use Rattle.called.specs.Called.{lentOf, CallsTo, TouchesTo}
 use Rattle.submitter.proofs.Slices.{Words}
 
 -- what `touch` gives back, and leaves in the five slices

@@ -23,7 +23,7 @@ use Rattle.optable.proofs.Opened.{none-opened}
 use Rattle.submitter.specs.declared.Opened.{Opened}
 use Rattle.submitter.specs.declared.Opened.the-variants.{Table}
 use Rattle.model.specs.Laws.{fresh}
-use Rattle.submission.specs.Decided.{lentOf}
+use Rattle.called.specs.Called.{lentOf}
 use Rattle.submitter.specs.Open.{refused, openedWith, openedNumber, OpensTo}
 
 -- a part of what is picked is picked of the parts

@@ -41,7 +41,7 @@ use Rattle.optable.proofs.top as top
 use Rattle.optable.proofs.find as find
 use Rattle.optable.proofs.claim as claim
 use Rattle.optable.proofs.accept as accept
-use Rattle.issue.specs.declared.Touched.{Touched}
+use Rattle.called.specs.declared.Touched.{Touched}
 use Rattle.queuecore.proofs.touch as touch
 use Rattle.submitter.proofs.Calling.{Left, row, Touches, Did}
 use Rattle.submitter.proofs.Slices.{Words, count, under, Lease, Whole, goes-lent, comes-lent}

@@ -27,9 +27,9 @@ use Rattle.model.proofs.Counts.Laws as CountedLaws
 use Rattle.completion.specs.declared.Reply.{Reply}
 use Rattle.completion.proofs.Reply as Answered
 use Rattle.completion.proofs.Reply.Laws as AnsweredLaws
-use Rattle.issue.specs.declared.Touched.{Touched}
-use Rattle.issue.proofs.Touched as Decided
-use Rattle.issue.proofs.Touched.Laws as DecidedLaws
+use Rattle.called.specs.declared.Touched.{Touched}
+use Rattle.called.proofs.Touched as Decided
+use Rattle.called.proofs.Touched.Laws as DecidedLaws
 use Rattle.optable.proofs.Element.{R}
 use Rattle.optable.proofs.Element as Element
 use Rattle.submitter.specs.declared.Opened.{Opened}

@@ -1,8 +1,7 @@
 // The calls that a host makes (store-io's submitter/mod.rs): the opening, and every call after it. Rows and counts are lent; what a call decides is
 // decided in queuecore, on values and words.
 ghost use mathlib.Core.Path.{_≡_};
-ghost use Rattle.submission.specs.Decided.{lentOf};
-ghost use Rattle.queuecore.specs.Called.{CallsTo};
+ghost use Rattle.called.specs.Called.{lentOf, CallsTo};
 ghost use Rattle.submitter.specs.Open.{openedWith, OpensTo};
 use completion::Refusal;
 use completion::Reply;
@@ -51,8 +50,8 @@ pub fn open(
     reply(depth)
 }
 
-// One call (Submitter::write, read_page): the row on top of the free stack is found, what the call does to it is decided, and it is claimed, with
-// the counts, as decided; a call that is turned away claims the row as it was.
+// One call (Submitter::write, read_page, and the calls of queue_core.rs): the row that it touches is found, what the call does to it is decided, and it is
+// claimed, with the counts, as decided; a call that is turned away claims the row as it was.
 pub fn call(
     call: Call,
     counts: &mut Counts,
@@ -66,10 +65,11 @@ pub fn call(
     ensures { λ r. ⌜ CallsTo call (now (counts .entry)) (lentOf (now (rows .entry)) (now (store .entry)) (now (free .entry)) (now (ready .entry)) (now (owners .entry)) (now (pool .entry))) r (now (counts .exit)) (lentOf (now (rows .exit)) (now (store .exit)) (now (free .exit)) (now (ready .exit)) (now (owners .exit)) (now (pool .exit))) ⌝ }
 {
     let c = *counts;
-    let at = optable::top(free, c.live) as usize;
+    let at = called::place(call, c, free) as usize;
     let row = optable::find(rows, at);
     let t = queuecore::touch(call, row, c, rows.len(), store, free, ready, owners, pool);
     optable::claim(rows, at, t.row);
     optable::accept(counts, t.accepts);
+    optable::release(counts, t.frees);
     t.reply
 }

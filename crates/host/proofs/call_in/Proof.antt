@@ -45,8 +45,7 @@ use Rattle.completion.proofs.Reply.Laws as AnsweredLaws
 use Rattle.model.specs.declared.Call.{Call}
 use Rattle.model.specs.declared.Counts.{Counts}
 use Rattle.model.specs.declared.Row.{Row}
-use Rattle.submission.specs.Decided.{lentOf}
-use Rattle.queuecore.specs.Called.{CallsTo}
+use Rattle.called.specs.Called.{lentOf, CallsTo}
 use Rattle.optable.proofs.Tally.{N}
 use Rattle.optable.proofs.Tally as Tally
 use Rattle.submitter.proofs.Slices.{Words, count}

@@ -42,7 +42,7 @@ use denote.Triple.Walked.{says, Stays, gave-slice, stay-dropped, walkOf, goes-ga
 use Rattle.model.specs.declared.Opening.{Opening}
 use Rattle.model.specs.declared.Row.{Row}
 use Rattle.model.proofs.Opening.Laws as OpeningLaws
-use Rattle.submission.specs.Decided.{lentOf}
+use Rattle.called.specs.Called.{lentOf}
 use Rattle.submitter.specs.Open.{OpensTo}
 use Rattle.submitter.specs.declared.Opened.{Opened}
 use Rattle.submitter.proofs.Opened as Replied

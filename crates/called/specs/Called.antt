@@ -12,14 +12,36 @@ use Rattle.model.specs.declared.Opening.{Opening}
 use Rattle.model.specs.declared.Counts.{Counts}
 use Rattle.model.specs.declared.Row.{Row}
 use Rattle.model.specs.declared.Call.{Call}
+use Rattle.model.specs.declared.Call.the-variants.{Write, ReadPage, Answer, Flushed, Take, SetGate, SetReadOnly, SetForced, ReportPoison}
 use Rattle.model.specs.State.{freed}
 use Rattle.model.specs.Opening.{storeWords, readyWords}
 use Rattle.model.specs.Memory.{Lent, lengthsOf, sameLengths, settingsIn, stateIn}
-use Rattle.step.specs.Step.{step}
+use Rattle.step.specs.Step.{rowOf, step}
 use Rattle.step.specs.Sound.{Sound}
-use Rattle.optable.specs.Counted.{acceptedIf}
-use Rattle.submission.specs.Decided.{lentOf}
-use Rattle.issue.specs.declared.Touched.{Touched}
+use Rattle.optable.specs.declared.Frees.the-variants.{Nothing as none}
+use Rattle.optable.specs.Counted.{acceptedIf, releasedBy}
+use Rattle.called.specs.declared.Touched.{Touched}
+
+-- what a host lends
+abbrev pub lentOf : List Row → List ℕ → List ℕ → List ℕ → List ℕ → List ℕ → Lent
+lentOf rows store free ready owners pool = record { rows = rows; store = store; free = free; ready = ready; owners = owners; pool = pool }
+
+-- a call that is turned away
+unfoldable pub awayWith : Row → Refusal → Touched
+awayWith row f = record { row = row; accepts = false; frees = none; reply = turnedAway f }
+
+-- the place of the row that a call touches: of a submission the one on top of the free stack, of an answer or a flush result the one that its tag names; of
+-- the other calls, which touch none, 0
+unfoldable pub placeOf : Call → Counts → List ℕ → ℕ
+placeOf (Write q) c free = getD free (c .live) 0
+placeOf (ReadPage q) c free = getD free (c .live) 0
+placeOf (Answer t answer back flushes) c free = rowOf t
+placeOf (Flushed t result) c free = rowOf t
+placeOf Take c free = 0
+placeOf (SetGate h x) c free = 0
+placeOf (SetReadOnly h x) c free = 0
+placeOf (SetForced h x) c free = 0
+placeOf (ReportPoison cause) c free = 0
 
 -- nothing lent beyond what the table needs is written, and no length changes
 pub record Beyond (o : Opening) (l l′ : Lent) : Type 0 where
@@ -39,12 +61,14 @@ pub record CallsTo (call : Call) (c : Counts) (l : Lent) (r : Reply) (c′ : Cou
   pub as-step : Sound (stateIn c l) → step (stateIn c l) (lengthsOf l) call ≡ (stateIn c′ l′, r)
   pub beyond : Sound (stateIn c l) → Beyond (settingsIn (l .store)) l l′
 
--- the row that a submission touches: the one on top of the free stack
-abbrev pub touchedRow : List Row → Counts → List ℕ → Row
-touchedRow rows c free = getD rows (getD free (c .live) 0) (freed 0)
-
 -- with any rows among which the given one is the one to touch, the call as a whole
 abbrev pub TouchesTo : Call → Row → Counts → ℕ → List ℕ → List ℕ → List ℕ → List ℕ → List ℕ → Touched → List ℕ → List ℕ → List ℕ → List ℕ → List ℕ → Type 0
 TouchesTo call row c n store free ready owners pool t store′ free′ ready′ owners′ pool′ =
-    (rows : List Row) → length rows ≡ n → row ≡ touchedRow rows c free
-    → CallsTo call c (lentOf rows store free ready owners pool) (t .reply) (acceptedIf (t .accepts) c) (lentOf (set rows (getD free (c .live) 0) (t .row)) store′ free′ ready′ owners′ pool′)
+    (rows : List Row) → length rows ≡ n → row ≡ getD rows (placeOf call c free) (freed 0)
+    → CallsTo call c (lentOf rows store free ready owners pool) (t .reply) (releasedBy (t .frees) (acceptedIf (t .accepts) c)) (lentOf (set rows (placeOf call c free) (t .row)) store′ free′ ready′ owners′ pool′)
+
+-- likewise of one kind of call, once the lengths are found to be the opening's
+abbrev pub ArmTo : Call → Row → Counts → ℕ → List ℕ → List ℕ → List ℕ → List ℕ → List ℕ → Touched → List ℕ → List ℕ → List ℕ → List ℕ → List ℕ → Type 0
+ArmTo call row c n store free ready owners pool t store′ free′ ready′ owners′ pool′ =
+    (rows : List Row) → length rows ≡ n → row ≡ getD rows (placeOf call c free) (freed 0) → sameLengths (lengthsOf (lentOf rows store free ready owners pool)) store ≡ true
+    → CallsTo call c (lentOf rows store free ready owners pool) (t .reply) (releasedBy (t .frees) (acceptedIf (t .accepts) c)) (lentOf (set rows (placeOf call c free) (t .row)) store′ free′ ready′ owners′ pool′)
