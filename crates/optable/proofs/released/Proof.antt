@@ -1,58 +1,62 @@
+-- `optable::released` meets its contract, case by case.
+use mathlib.Core.Path.{_≡_, sym, ap, _∙_}
+use Rattle.regionmap.specs.Words.{wrap64}
+use Rattle.model.specs.declared.Counts.{Counts}
+use Rattle.optable.specs.declared.Frees.{Frees}
+use Rattle.optable.specs.Counted.{releasedBy}
 use borrow.Author.Needs.{needs}
 use Rattle.optable.proofs.released.Statement.{statement}
 use Rattle.optable.proofs.released.Tie as tie
-use Rattle.optable.proofs.released.Reads as reads
-use Rattle.optable.proofs.released.Lts as lts
-use Rattle.optable.proofs.one_less.Reads as one-less-reads
-use Rattle.std.proofs.num.wrapping_add_u64.Reads as wrapping-add-u64-reads
 
--- src/lib.rt:144:27
 enum-told : tie.Need-enum-told
 enum-told c = search needs
 
--- src/lib.rt:146:19
 enum-told-2 : tie.Need-enum-told-2
 enum-told-2 c = search needs
 
--- src/lib.rt:146:19
 one-less-requires : tie.Need-one-less-requires
 one-less-requires c κs = search needs
 
--- src/lib.rt:151:19
 enum-told-3 : tie.Need-enum-told-3
 enum-told-3 c = search needs
 
--- src/lib.rt:151:19
 one-less-requires-2 : tie.Need-one-less-requires-2
 one-less-requires-2 c κs = search needs
 
--- src/lib.rt:152:20
 wrapping-add-u64-requires : tie.Need-wrapping-add-u64-requires
 wrapping-add-u64-requires c κs = search needs
 
--- src/lib.rt:157:20
 enum-told-4 : tie.Need-enum-told-4
 enum-told-4 c = search needs
 
--- src/lib.rt:157:20
 one-less-requires-3 : tie.Need-one-less-requires-3
 one-less-requires-3 c κs = search needs
 
--- src/lib.rt:140:1
+-- what is freed is the case that the match found
+as-told : (c : Counts) {r s : Frees} → r ≡ s → releasedBy s c ≡ releasedBy r c
+as-told c e = sym (ap (λ (x : Frees). releasedBy x c) e)
+
 returns : tie.Need-returns
-returns c = ?
+unfolding releasedBy
+returns c = as-told (c .before .before .args .c) (c .enum-told .given .1)
 
--- src/lib.rt:140:1
 returns-2 : tie.Need-returns-2
-returns-2 c = ?
+unfolding releasedBy
+returns-2 c =
+    let a = c .before .before .before .args in
+    (λ i. record { live = c .one-less .ensures i; ready = a .c .ready; submissions = a .c .submissions }) ∙ as-told (a .c) (c .before .enum-told2 .given .1)
 
--- src/lib.rt:140:1
 returns-3 : tie.Need-returns-3
-returns-3 c = ?
+unfolding releasedBy wrap64
+returns-3 c =
+    let a = c .before .before .before .before .args in
+    (λ i. record { live = c .before .one-less2 .ensures i; ready = c .wrapping-add-u64 .ensures i; submissions = a .c .submissions }) ∙ as-told (a .c) (c .before .before .enum-told3 .given .1)
 
--- src/lib.rt:140:1
 returns-4 : tie.Need-returns-4
-returns-4 c = ?
+unfolding releasedBy
+returns-4 c =
+    let a = c .before .before .before .args in
+    (λ i. record { live = a .c .live; ready = c .one-less3 .ensures i; submissions = a .c .submissions }) ∙ as-told (a .c) (c .before .enum-told4 .given .1)
 
 pub released-spec : {M : Type 1} → statement M
 released-spec =
