@@ -3,3 +3,4 @@ pub mod Rules
 pub mod Opened
 pub mod Maps
 pub mod Laws
+pub mod Completions

@@ -11,12 +11,13 @@ use Rattle.regionmap.specs.Map.{Map, place}
 use Rattle.regionmap.specs.Words.{wrap64, mapIn, HoldsMap}
 use Rattle.regionmap.specs.Laws.{Lawful}
 use Rattle.transfer.specs.Transfer.{CardAndPool, Operation, wrote, readIn, whole, OneWrite, OneRead}
+use Rattle.completion.specs.declared.Completion.{Completion}
 use Rattle.model.specs.declared.Opening.{Opening}
 use Rattle.model.specs.declared.Lengths.{Lengths}
 use Rattle.model.specs.declared.Counts.{Counts}
 use Rattle.model.specs.State.{State}
 use Rattle.model.specs.Opening.{Plan, opened}
-use Rattle.model.specs.Memory.{Lent, lengthsOf, sameLengths, planIn, plansIn, opens, stateIn, storeOpened, openedLent}
+use Rattle.model.specs.Memory.{Lent, lengthsOf, sameLengths, planIn, plansIn, opens, stateIn, completionIn, completionWords, CompletionFits, storeOpened, openedLent}
 use Rattle.model.specs.Meaning.{Numbers, Room}
 
 -- the counts at first
@@ -70,3 +71,8 @@ pub record OpeningLaws : Type 0 where
       → OneWrite (operationAt o plan h b start total) s (whole wrote (operationAt o plan h b start total) s)
   pub read : (o : Opening) (plan : List ℕ) (l : Lengths) → opens o plan l ≡ true → (h b start total : ℕ) → Asked o plan h b start total → (s : CardAndPool) → length (s .pool) ≡ l .pool
       → OneRead (operationAt o plan h b start total) s (whole readIn (operationAt o plan h b start total) s)
+
+-- A completion's words are 16, and one that lies in words is read back from them. Proved in proofs/Completions.antt (completion-laws).
+pub record CompletionLaws : Type 0 where
+  pub long : (c : Completion) → length (completionWords c) ≡ 16
+  pub held : (o : Opening) (c : Completion) → CompletionFits o c → completionIn o (completionWords c) ≡ c

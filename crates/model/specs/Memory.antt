@@ -7,9 +7,10 @@
 -- free     the free rows, top first, from place `live` up to the depth
 -- ready    0 the place of the oldest completion; 1 + 16 i the completion at place i of a ring of depth places
 -- owners   of each buffer: 0 the host, 1 the table, 2 lost
+use mathlib.Core.Path.{_≡_}
 use mathlib.Core.Bool.{Bool, true, false, not, _&&_, _||_}
 use mathlib.Core.List.{List, [], _∷_, _++_, map}
-use Prim.Native.Nat.{ℕ, zero, suc, _+_, _-_, _*_, _%_, _^_}
+use Prim.Native.Nat.{ℕ, zero, suc, _+_, _-_, _*_, _<_, _%_, _^_}
 use lib.ListN.{length, getD, take, drop, set, replicate}
 use lib.Dec.{leb, eqb}
 use Rattle.layout.specs.Pick.{pick}
@@ -35,7 +36,7 @@ use Rattle.model.specs.declared.Gate.{Gate}
 use Rattle.model.specs.declared.Gate.the-variants.{Open, Recycled, Released}
 use Rattle.model.specs.declared.Counts.{Counts}
 use Rattle.model.specs.declared.Row.{Row}
-use Rattle.model.specs.State.{Region, noRegion, Owner, Owner.host, Owner.table, Owner.lost, State, freed, upFrom}
+use Rattle.model.specs.State.{Region, Owner, Owner.host, Owner.table, Owner.lost, State, freed, upFrom}
 use Rattle.model.specs.Opening.{Plan, admits}
 
 -- what the host lends
@@ -89,8 +90,9 @@ sameLengths l s =
 unfoldable pub opIn : ℕ → Op
 opIn n = pick (eqb n 0) noOp (pick (eqb n 1) readOp (pick (eqb n 2) writeOp flushOp))
 
+-- an OS error, of two words: whether there is one, and the error, whose low 32 bits count
 unfoldable pub errorIn : ℕ → ℕ → OsError
-errorIn has n = pick (flag has) (Raw n) noError
+errorIn has n = pick (flag has) (Raw (n % 2 ^ 32)) noError
 
 unfoldable pub causeIn : ℕ → ℕ → ℕ → FirstCause
 causeIn op has n = record { op = opIn op; raw = errorIn has n }
@@ -113,51 +115,124 @@ regionsIn (suc n) marks ws = regionIn (take 3 marks) (take 70 ws) ∷ regionsIn 
 unfoldable pub ownerIn : ℕ → Owner
 ownerIn n = pick (eqb n 0) host (pick (eqb n 1) table lost)
 
--- a completion, of the settings, the regions and its own 16 words: 0 the host's tag, 1 the outcome (1 written, 2 written with receipt, 3 read,
--- 4 unknown, 5 interrupted, 6 media, 7 Io, 8 queue full, 9 poisoned), 2 the handle, 3 start, 4 end, 5 the ticket's need, 6 the receipt's need or
--- the read's length, 7 the operation, 8 whether an error, 9 the error, 10 whether the buffer is back, 11 the buffer, 12 its length
-module _ (o : Opening) (g : Region) (c : List ℕ) where
-  abbrev word : ℕ → ℕ
-  word i = getD c i 0
+-- a completion, of the settings and its own 16 words: 0 the host's tag, 1 the outcome (1 written, 2 written with receipt, 3 read, 4 unknown,
+-- 5 interrupted, 6 media, 7 Io, 8 queue full, 9 poisoned), 2 the region's id, 3 start, 4 end, 5 the ticket's need, 6 the receipt's need or the
+-- read's length, 7 the operation, 8 whether an error, 9 the error, 10 whether the buffer is back, 11 the buffer, 12 its length, 13 the region's
+-- generation; 14 and 15 unused
+unfoldable pub rangeIn : List ℕ → Range
+rangeIn c = record { region = getD c 2 0; start = positionOf (getD c 3 0); end = positionOf (getD c 4 0) }
 
-  unfoldable pub rangeIn : Range
-  rangeIn = record { region = g .id; start = positionOf (word 3); end = positionOf (word 4) }
-
-  unfoldable pub ticketIn : WriteTicket
-  ticketIn =
-      record { volume = o .volume; region = g .id; generation = g .generation; start = positionOf (word 3); end = positionOf (word 4); need = word 5; epoch = o .epoch }
+unfoldable pub ticketIn : Opening → List ℕ → WriteTicket
+ticketIn o c =
+    record { volume = o .volume; region = getD c 2 0; generation = getD c 13 0 % 2 ^ 32; start = positionOf (getD c 3 0); end = positionOf (getD c 4 0); need = getD c 5 0; epoch = o .epoch }
 
 -- "a receipt with the result's need, synced unless that is 0 or 2^64 − 1"; "A receipt takes its range from the ticket; untorn and prefix are false."
 unfoldable pub receiptFor : Opening → WriteTicket → ℕ → DurableReceipt
 receiptFor o t n =
     record { volume = t .volume; region = t .region; generation = t .generation; class = o .class; label = o .label; start = t .start; through = t .end; untorn = false; need = n; prefix = false; synced = not (eqb n 0 || eqb n (2 ^ 64 - 1)); epoch = t .epoch }
 
-unfoldable pub outcomeIn : Opening → Region → List ℕ → Outcome
-outcomeIn o g c =
-    pick (eqb (getD c 1 0) 1) (Written (ticketIn o g c))
-    (pick (eqb (getD c 1 0) 2) (Receipt (ticketIn o g c) (receiptFor o (ticketIn o g c) (getD c 6 0)))
+unfoldable pub outcomeIn : Opening → List ℕ → Outcome
+outcomeIn o c =
+    pick (eqb (getD c 1 0) 1) (Written (ticketIn o c))
+    (pick (eqb (getD c 1 0) 2) (Receipt (ticketIn o c) (receiptFor o (ticketIn o c) (getD c 6 0)))
     (pick (eqb (getD c 1 0) 3) (Read (getD c 6 0))
-    (pick (eqb (getD c 1 0) 4) (Unknown (rangeIn o g c) (causeIn (getD c 7 0) (getD c 8 0) (getD c 9 0)))
-    (pick (eqb (getD c 1 0) 5) (Interrupted (rangeIn o g c))
-    (pick (eqb (getD c 1 0) 6) (Corruption (rangeIn o g c))
-    (pick (eqb (getD c 1 0) 7) (Io (rangeIn o g c) (opIn (getD c 7 0)) (getD c 9 0))
-    (pick (eqb (getD c 1 0) 8) (QueueFull (rangeIn o g c)) (poisonedBy (causeIn (getD c 7 0) (getD c 8 0) (getD c 9 0))))))))))
+    (pick (eqb (getD c 1 0) 4) (Unknown (rangeIn c) (causeIn (getD c 7 0) (getD c 8 0) (getD c 9 0)))
+    (pick (eqb (getD c 1 0) 5) (Interrupted (rangeIn c))
+    (pick (eqb (getD c 1 0) 6) (Corruption (rangeIn c))
+    (pick (eqb (getD c 1 0) 7) (Io (rangeIn c) (opIn (getD c 7 0)) (getD c 9 0 % 2 ^ 32))
+    (pick (eqb (getD c 1 0) 8) (QueueFull (rangeIn c)) (poisonedBy (causeIn (getD c 7 0) (getD c 8 0) (getD c 9 0))))))))))
 
-unfoldable pub completionIn : Opening → List Region → List ℕ → Completion
-completionIn o gs c =
-    record { tag = getD c 0 0; outcome = outcomeIn o (getD gs (getD c 2 0) noRegion) c; buf = pick (flag (getD c 10 0)) (Back (getD c 11 0) (getD c 12 0)) Lost }
+-- a buffer, of three words
+unfoldable pub bufferIn : ℕ → ℕ → ℕ → Buffer
+bufferIn back b n = pick (flag back) (Back b n) Lost
+
+unfoldable pub completionIn : Opening → List ℕ → Completion
+completionIn o c = record { tag = getD c 0 0; outcome = outcomeIn o c; buf = bufferIn (getD c 10 0) (getD c 11 0) (getD c 12 0) }
 
 -- n completions of a ring of d places, from place i on
-unfoldable pub readyIn : Opening → List Region → ℕ → ℕ → ℕ → List ℕ → List Completion
-readyIn o gs d i zero ws = []
-readyIn o gs d i (suc n) ws = completionIn o gs (take 16 (drop (16 * (i % d)) ws)) ∷ readyIn o gs d (suc i) n ws
+unfoldable pub readyIn : Opening → ℕ → ℕ → ℕ → List ℕ → List Completion
+readyIn o d i zero ws = []
+readyIn o d i (suc n) ws = completionIn o (take 16 (drop (16 * (i % d)) ws)) ∷ readyIn o d (suc i) n ws
 
 -- the state of a table with these counts in what is lent
 unfoldable pub stateIn : Counts → Lent → State
 stateIn c l =
     let o = settingsIn (l .store) in
-    let gs = regionsIn (o .regions) (drop 24 (l .store)) (drop 48 (l .store)) in
-    record { settings = o; lengths = lengthsIn (l .store); regions = gs; poison = poisonIn (l .store); counts = c; rows = take (o .depth) (l .rows); free = drop (c .live) (take (o .depth) (l .free)); ready = readyIn o gs (o .depth) (getD (l .ready) 0 0) (c .ready) (drop 1 (l .ready)); owners = map ownerIn (take (o .buffers) (l .owners)); pool = l .pool }
+    record { settings = o; lengths = lengthsIn (l .store); regions = regionsIn (o .regions) (drop 24 (l .store)) (drop 48 (l .store)); poison = poisonIn (l .store); counts = c; rows = take (o .depth) (l .rows); free = drop (c .live) (take (o .depth) (l .free)); ready = readyIn o (o .depth) (getD (l .ready) 0 0) (c .ready) (drop 1 (l .ready)); owners = map ownerIn (take (o .buffers) (l .owners)); pool = l .pool }
+
+-- ---- a completion as words
+
+unfoldable pub opWord : Op → ℕ
+opWord noOp = 0
+opWord readOp = 1
+opWord writeOp = 2
+opWord flushOp = 3
+
+unfoldable pub hasWord : OsError → ℕ
+hasWord noError = 0
+hasWord (Raw n) = 1
+
+unfoldable pub rawWord : OsError → ℕ
+rawWord noError = 0
+rawWord (Raw n) = n
+
+-- words 1 to 9: the outcome, the region's id, start, end, the ticket's need, the receipt's need or the read's length, and a cause; what a case has
+-- no use for is 0
+unfoldable pub outcomeWords : Outcome → List ℕ
+outcomeWords (Written t) = 1 ∷ t .region ∷ t .start .0 ∷ t .end .0 ∷ t .need ∷ 0 ∷ 0 ∷ 0 ∷ 0 ∷ []
+outcomeWords (Receipt t d) = 2 ∷ t .region ∷ t .start .0 ∷ t .end .0 ∷ t .need ∷ d .need ∷ 0 ∷ 0 ∷ 0 ∷ []
+outcomeWords (Read n) = 3 ∷ 0 ∷ 0 ∷ 0 ∷ 0 ∷ n ∷ 0 ∷ 0 ∷ 0 ∷ []
+outcomeWords (Unknown r e) = 4 ∷ r .region ∷ r .start .0 ∷ r .end .0 ∷ 0 ∷ 0 ∷ opWord (e .op) ∷ hasWord (e .raw) ∷ rawWord (e .raw) ∷ []
+outcomeWords (Interrupted r) = 5 ∷ r .region ∷ r .start .0 ∷ r .end .0 ∷ 0 ∷ 0 ∷ 0 ∷ 0 ∷ 0 ∷ []
+outcomeWords (Corruption r) = 6 ∷ r .region ∷ r .start .0 ∷ r .end .0 ∷ 0 ∷ 0 ∷ 0 ∷ 0 ∷ 0 ∷ []
+outcomeWords (Io r op n) = 7 ∷ r .region ∷ r .start .0 ∷ r .end .0 ∷ 0 ∷ 0 ∷ opWord op ∷ 0 ∷ n ∷ []
+outcomeWords (QueueFull r) = 8 ∷ r .region ∷ r .start .0 ∷ r .end .0 ∷ 0 ∷ 0 ∷ 0 ∷ 0 ∷ 0 ∷ []
+outcomeWords (poisonedBy e) = 9 ∷ 0 ∷ 0 ∷ 0 ∷ 0 ∷ 0 ∷ opWord (e .op) ∷ hasWord (e .raw) ∷ rawWord (e .raw) ∷ []
+
+-- words 10 to 12
+unfoldable pub bufferWords : Buffer → List ℕ
+bufferWords (Back b n) = 1 ∷ b ∷ n ∷ []
+bufferWords Lost = 0 ∷ 0 ∷ 0 ∷ []
+
+-- word 13
+unfoldable pub generationWord : Outcome → ℕ
+generationWord (Written t) = t .generation
+generationWord (Receipt t d) = t .generation
+generationWord (Read n) = 0
+generationWord (Unknown r e) = 0
+generationWord (Interrupted r) = 0
+generationWord (Corruption r) = 0
+generationWord (Io r op n) = 0
+generationWord (QueueFull r) = 0
+generationWord (poisonedBy e) = 0
+
+unfoldable pub completionWords : Completion → List ℕ
+completionWords c = c .tag ∷ (outcomeWords (c .outcome) ++ (bufferWords (c .buf) ++ (generationWord (c .outcome) ∷ 0 ∷ 0 ∷ [])))
+
+-- What makes a completion lie in words: an OS error has 32 bits, a ticket is the opening's and its generation has 32 bits, and a receipt is the one
+-- for its ticket.
+unfoldable pub ErrorFits : OsError → Type 0
+ErrorFits noError = Unit {0}
+ErrorFits (Raw n) = n < 2 ^ 32
+
+pub record TicketOf (o : Opening) (t : WriteTicket) : Type 0 where
+  pub volume : t .volume ≡ o .volume
+  pub epoch : t .epoch ≡ o .epoch
+  pub generation : t .generation < 2 ^ 32
+
+unfoldable pub OutcomeFits : Opening → Outcome → Type 0
+OutcomeFits o (Written t) = TicketOf o t
+OutcomeFits o (Receipt t d) = TicketOf o t × (d ≡ receiptFor o t (d .need))
+OutcomeFits o (Read n) = Unit {0}
+OutcomeFits o (Unknown r e) = ErrorFits (e .raw)
+OutcomeFits o (Interrupted r) = Unit {0}
+OutcomeFits o (Corruption r) = Unit {0}
+OutcomeFits o (Io r op n) = n < 2 ^ 32
+OutcomeFits o (QueueFull r) = Unit {0}
+OutcomeFits o (poisonedBy e) = ErrorFits (e .raw)
+
+pub record CompletionFits (o : Opening) (c : Completion) : Type 0 where
+  pub outcome : OutcomeFits o (c .outcome)
 
 -- ---- what an opening writes
 
