@@ -6,7 +6,7 @@ use Prim.Native.Nat.{ℕ, _+_}
 use lib.ListN.{getD}
 use Rattle.regionmap.specs.declared.FoundPiece.{FoundPiece}
 use Rattle.regionmap.specs.declared.Position.{Position}
-use Rattle.regionmap.specs.Words.{HoldsMap, mapIn, pieceFound, positionOf, wrap64}
+use Rattle.regionmap.specs.Words.{positionOf, wrap64}
 use Rattle.completion.specs.declared.Refusal.the-variants.{Unfit}
 use Rattle.completion.specs.declared.Reply.the-variants.{Piece as piece}
 use Rattle.model.specs.declared.Counts.{Counts}
@@ -20,14 +20,13 @@ use Rattle.model.specs.declared.Verdict.{Verdict}
 use Rattle.model.specs.declared.Verdict.the-variants.{No as refuses, Accept}
 use Rattle.model.specs.State.{State}
 use Rattle.model.specs.Memory.{Lent, lengthsOf, sameLengths, stateIn}
-use Rattle.model.specs.Laws.{mapWordsAt}
 use Rattle.step.specs.Sound.{Sound}
-use Rattle.liveregion.specs.Live.{InStore}
+use Rattle.firstpiece.specs.Piece.{PieceIn}
 use Rattle.called.specs.Called.{lentOf}
 
 -- the map's piece for a request, of the region at its handle
 abbrev pub FirstPiece : List ℕ → Request → FoundPiece → Type 0
-FirstPiece store q r = InStore store (q .handle) → HoldsMap (mapWordsAt store (q .handle)) → r ≡ pieceFound (mapIn (mapWordsAt store (q .handle))) (q .offset .0) (q .length)
+FirstPiece store q r = PieceIn store (q .handle) (q .offset .0) (q .length) r
 
 -- where the range of a request ends, as a number of 64 bits
 abbrev pub endWrapped : Request → Position

@@ -1,8 +1,8 @@
-// Whether a submission is accepted, and as what (store-io's submitter/mod.rs: write, read_page and read, first_piece): the lengths, the questions, and
+// Whether a submission is accepted, and as what (store-io's submitter/mod.rs: write, read_page and read): the lengths, the questions, and
 // of an accepted one the row on top of the free stack and the first piece.
 ghost use mathlib.Core.Path.{_≡_};
 ghost use Rattle.step.specs.Step.{writeVerdict, readVerdict};
-ghost use Rattle.submission.specs.Decided.{FirstPiece, DecidedBy, Decides, endWrapped};
+ghost use Rattle.submission.specs.Decided.{DecidedBy, Decides, endWrapped};
 use completion::Refusal;
 use model::Asked;
 use model::Counts;
@@ -10,27 +10,7 @@ use model::Kind;
 use model::Lengths;
 use model::Request;
 use model::Verdict;
-use regionmap::FoundPiece;
-use regionmap::Offset;
 use regionmap::Position;
-
-// The first piece of a request (first_piece); none where the words are too few.
-fn first_piece(store: &[u64], q: Request) -> FoundPiece
-    ensures { λ r. ⌜ FirstPiece (now (store .entry)) q r ⌝ }
-{
-    let none = FoundPiece {
-        offset: Offset(0),
-        count: 0,
-    };
-    if 8 <= q.handle {
-        return none;
-    }
-    let at = 50 + 70 * q.handle as usize;
-    if store.len() < at + 68 {
-        return none;
-    }
-    pieces::piece_at(&store[at..at + 68], q.offset, q.length)
-}
 
 // Where the range of a request ends; of an accepted one no sum wraps.
 fn end_of(q: Request) -> Position
@@ -45,11 +25,14 @@ fn decide(asked: Asked, live: u64, store: &[u64], free: &[u64], kind: Kind, q: R
 {
     match asked {
         Asked::No(refusal) => Verdict::No(refusal),
-        Asked::Yes => Verdict::Accept {
-            row: optable::top(free, live),
-            kind,
-            piece: first_piece(store, q),
-        },
+        Asked::Yes => {
+            let start = q.offset;
+            Verdict::Accept {
+                row: optable::top(free, live),
+                kind,
+                piece: firstpiece::first_piece(store, q.handle, start, q.length),
+            }
+        }
     }
 }
 

@@ -1,4 +1,4 @@
--- `submission::first_piece` meets its contract, by that of `piece_at` on the region's words; where the contract asks, none is missing.
+-- `firstpiece::first_piece` meets its contract, by that of `piece_at` on the region's words; where the contract asks, none is missing.
 use mathlib.Core.Path.{_≡_, ap, subst}
 use mathlib.Core.List.{List}
 use Prim.Native.Nat.{ℕ, _+_, _-_, _*_}
@@ -6,8 +6,8 @@ use native.Mathlib.Omega.{arith}
 use lib.ListN.{take, drop}
 use Rattle.regionmap.specs.Words.{HoldsMap, mapIn, pieceFound}
 use borrow.Author.Needs.{needs}
-use Rattle.submission.proofs.first_piece.Statement.{statement}
-use Rattle.submission.proofs.first_piece.Tie as tie
+use Rattle.firstpiece.proofs.first_piece.Statement.{statement}
+use Rattle.firstpiece.proofs.first_piece.Tie as tie
 
 returns : tie.Need-returns
 returns c = λ inside _. absurd (omega (arith, inside .below, c .if1 .taken))
@@ -50,7 +50,7 @@ returns-3 : tie.Need-returns-3
 returns-3 c =
     let a = c .before .before .before .before .before .before .args in
     λ inside lies.
-    subst (λ (ws : List ℕ). HoldsMap ws → c .piece-at .result ≡ pieceFound (mapIn ws) (a .q .offset .0) (a .q .length)) (lent-map (a .store .now) (50 + 70 * a .q .handle)) (c .piece-at .ensures) lies
+    subst (λ (ws : List ℕ). HoldsMap ws → c .piece-at .result ≡ pieceFound (mapIn ws) (a .pos .0) (a .left)) (lent-map (a .store .now) (50 + 70 * a .handle)) (c .piece-at .ensures) lies
 
 pub first-piece-spec : {M : Type 1} → statement M
 first-piece-spec =
