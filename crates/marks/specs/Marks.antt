@@ -34,7 +34,17 @@ gateWord Released = 2
 unfoldable pub markedIn : ℕ → ℕ → ℕ → List ℕ → List ℕ
 markedIn h mark word store = pick (ltb h 8) (pick (ltb mark 3) (set store (24 + 3 * h + mark) word) store) store
 
--- the error's two words
-unfoldable pub errorPut : OsError → List ℕ → List ℕ
-errorPut noError store = set store 21 0
-errorPut (Raw n) store = set (set store 21 1) 22 n
+-- the store poisoned with a cause, the first kept
+unfoldable pub poisonedIn : FirstCause → List ℕ → List ℕ
+poisonedIn c store =
+    pick (leb 48 (length store)) (pick (flag (getD store 19 0)) store (set (set (set (set store 19 1) 20 (opWord (c .op))) 21 (hasWord (c .raw))) 22 (rawWord (c .raw)))) store
+
+-- one of these calls, of any table whose store these words are: only the store changes
+abbrev pub MarksTo : Call → Row → List ℕ → Touched → List ℕ → Type 0
+MarksTo call row store r store′ = (c : Counts) (n : ℕ) (free ready owners pool : List ℕ) → ArmTo call row c n store free ready owners pool r store′ free ready owners pool
+
+-- poison in the words is poison of the state, and nothing else changes
+pub record PoisonLaws : Type 0 where
+  pub poisoned : (c : Counts) (l : Lent) (cause : FirstCause) → 48 ≤ length (l .store) → ErrorFits (cause .raw)
+      → stateIn c (withStore l (poisonedIn cause (l .store))) ≡ withPoison (stateIn c l) (firstKept (poisonIn (l .store)) cause)
+  pub beyond : (cause : FirstCause) (store : List ℕ) → (length (poisonedIn cause store) ≡ length store) × (drop 48 (poisonedIn cause store) ≡ drop 48 store)

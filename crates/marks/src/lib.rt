@@ -8,8 +8,6 @@ use completion::Context;
 use completion::Refusal;
 use completion::Reply;
 use domain::FirstCause;
-use domain::Op;
-use domain::OsError;
 use model::Gate;
 use model::Row;
 use optable::Frees;
@@ -88,18 +86,6 @@ pub fn set_forced(row: Row, store: &mut [u64], handle: u64, on: bool) -> Touched
     set_mark(row, store, handle, 2, flag_word(on))
 }
 
-// An operation's word.
-fn op_word(op: Op) -> u64
-    ensures { λ r. ⌜ r ≡ opWord op ⌝ }
-{
-    match op {
-        Op::None => 0,
-        Op::Read => 1,
-        Op::Write => 2,
-        Op::Flush => 3,
-    }
-}
-
 // Poisons the store with a cause; the first is kept (Domain::poison). Nothing where the words are too few.
 pub fn poison(store: &mut [u64], cause: FirstCause)
     ensures { λ _. ⌜ now (store .exit) ≡ poisonedIn cause (now (store .entry)) ⌝ }
@@ -113,16 +99,9 @@ pub fn poison(store: &mut [u64], cause: FirstCause)
     let op = cause.op;
     let raw = cause.raw;
     store[19] = 1;
-    store[20] = op_word(op);
-    match raw {
-        OsError::None => {
-            store[21] = 0;
-        }
-        OsError::Raw(n) => {
-            store[21] = 1;
-            store[22] = n as u64;
-        }
-    }
+    store[20] = causes::op_word(op);
+    store[21] = causes::has_word(raw);
+    store[22] = causes::raw_word(raw);
 }
 
 // "report poison with a cause (the first is kept)"
