@@ -10,3 +10,5 @@ pub mod Histories
 pub mod Transfers
 pub mod Laws
 pub mod Figures
+pub mod AloneTags
+pub mod AloneRules
