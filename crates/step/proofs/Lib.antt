@@ -12,3 +12,5 @@ pub mod Laws
 pub mod Figures
 pub mod AloneTags
 pub mod AloneRules
+pub mod ProjectionFixed
+pub mod ProjectionHost
