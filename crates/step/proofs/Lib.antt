@@ -14,3 +14,4 @@ pub mod AloneTags
 pub mod AloneRules
 pub mod ProjectionFixed
 pub mod ProjectionHost
+pub mod ProjectionSet
