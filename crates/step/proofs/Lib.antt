@@ -15,3 +15,5 @@ pub mod AloneRules
 pub mod ProjectionFixed
 pub mod ProjectionHost
 pub mod ProjectionSet
+pub mod ProjectionRows
+pub mod ProjectionFed
