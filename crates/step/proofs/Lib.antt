@@ -17,3 +17,5 @@ pub mod ProjectionHost
 pub mod ProjectionSet
 pub mod ProjectionRows
 pub mod ProjectionFed
+pub mod ProjectionAccepted
+pub mod ProjectionCalls
