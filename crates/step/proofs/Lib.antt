@@ -19,3 +19,6 @@ pub mod ProjectionRows
 pub mod ProjectionFed
 pub mod ProjectionAccepted
 pub mod ProjectionCalls
+pub mod ProjectionReached
+pub mod ListsBrought
+pub mod ProjectionSteps

@@ -74,7 +74,7 @@ module _ (x : Start) (s : State) (i : Sound s) (fx : Fixed x s) (a : Alones) (p 
           fate = same-fate x s fx a row (z .bytes) j (p .forced (row .handle) (live-in-table s i (rowOf t) live .region)) (p .first) (z .alike);
         }
 
-    long : length (bytesAt s (row .buffer)) ≡ s .settings .capacity
+    pub long : length (bytesAt s (row .buffer)) ≡ s .settings .capacity
     unfolding bytesAt
     long = turn-laws .stretch-length (s .settings .capacity) (row .buffer) (s .pool) (in-pool s i (row .buffer) (live-in-table s i (rowOf t) live .buffer))
 
