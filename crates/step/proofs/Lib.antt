@@ -22,3 +22,4 @@ pub mod ProjectionCalls
 pub mod ProjectionReached
 pub mod ListsBrought
 pub mod ProjectionSteps
+pub mod Projection
