@@ -23,3 +23,4 @@ pub mod ProjectionReached
 pub mod ListsBrought
 pub mod ProjectionSteps
 pub mod Projection
+pub mod QuietCourse

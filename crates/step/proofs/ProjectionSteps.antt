@@ -96,7 +96,7 @@ module _ (laws : StepLaws) (x : Start) (s : State) (a : Alones) (k : Reached x s
       br .called-is s₁ (e .lengths)
       ∙ ap (λ (c : Bool). pick c (underTag s₁ t i) (s₁, turnedAway Unfit)) (ap (eqLengths (e .lengths)) (k₁ .fixed .lengths) ∙ q)
 
-  alone-to : (b : Bool) → sameLengths ≡ b → nextAlone x s a e ≡ pick b (feeds (x .opening) (plansOf x) (x .lengths) a (e .leaves) t i (a .ops t)) a
+  pub alone-to : (b : Bool) → sameLengths ≡ b → nextAlone x s a e ≡ pick b (feeds (x .opening) (plansOf x) (x .lengths) a (e .leaves) t i (a .ops t)) a
   unfolding aloneNext
   alone-to b q =
       ap (λ (c : Bool). pick c (heard (x .opening) (plansOf x) (x .lengths) a (e .leaves) (e .made) (replyTo s e)) a) q
@@ -106,12 +106,12 @@ module _ (laws : StepLaws) (x : Start) (s : State) (a : Alones) (k : Reached x s
   unfolding replyTo next isAway
   turned-is f q = (ap (λ (y : State × Reply). isAway (y .1)) q, ap (λ (y : State × Reply). y .0) q)
 
-  other-length : sameLengths ≡ false → (isAway (replyTo s e) ≡ true) × (next s e ≡ s₁)
+  pub other-length : sameLengths ≡ false → (isAway (replyTo s e) ≡ true) × (next s e ≡ s₁)
   unfolding pick
   other-length q = turned-is Unfit (comes-to false q)
 
   -- the tag names no live row
-  unnamed : names row t ≡ false → (isAway (replyTo s e) ≡ true) × (next s e ≡ s₁)
+  pub unnamed : names row t ≡ false → (isAway (replyTo s e) ≡ true) × (next s e ≡ s₁)
   unfolding underTag pick rowAt leave
   unnamed n = by-lengths sameLengths refl
     where
@@ -119,21 +119,21 @@ module _ (laws : StepLaws) (x : Start) (s : State) (a : Alones) (k : Reached x s
       by-lengths true q = turned-is UnknownTag (comes-to true q ∙ ap (λ (c : Bool). pick c (settled s₁ t (rowAt s₁ (rowOf t)) (fateOf s₁ (rowAt s₁ (rowOf t)) i)) (s₁, turnedAway UnknownTag)) n)
       by-lengths false q = other-length q
 
-  nothing-open : ((r : Row) (bytes : List ℕ) → a .ops t ≡ some (isOpen r bytes) → ⊥) → names row t ≡ false
+  pub nothing-open : ((r : Row) (bytes : List ℕ) → a .ops t ≡ some (isOpen r bytes) → ⊥) → names row t ≡ false
   unfolding rowAt leave
   nothing-open n = refused (names row t) (λ q. n row _ (met x s₁ (k₁ .sound) (k₁ .fixed) a (k₁ .projected) t q i .is-open))
 
   module _ (r : Row) (bytes : List ℕ) (op : a .ops t ≡ some (isOpen r bytes)) where
-    abbrev fate : Fate
+    abbrev pub fate : Fate
     fate = aloneFate (x .opening) (plansOf x) (x .lengths) a (e .leaves) r bytes i
 
-    named : names row t ≡ true
+    pub named : names row t ≡ true
     named = k .projected .only t r bytes op .0
 
-    row-is : row ≡ r
+    pub row-is : row ≡ r
     row-is = k .projected .only t r bytes op .1
 
-    fate-is : fateOf s₁ row i ≡ fate
+    pub fate-is : fateOf s₁ row i ≡ fate
     unfolding rowAt leave
     fate-is =
         let m = met x s₁ (k₁ .sound) (k₁ .fixed) a (k₁ .projected) t named i in
@@ -143,20 +143,26 @@ module _ (laws : StepLaws) (x : Start) (s : State) (a : Alones) (k : Reached x s
         bytes-is : {b c : List ℕ} → some (isOpen row b) ≡ some (isOpen r c) → b ≡ c
         bytes-is same = cc
 
-    met-is : sameLengths ≡ true → done s₁ (e .lengths) (e .made) ≡ settled s₁ t r fate
+    pub told-is : Told (r .awaits) (bytesAt s₁ (r .buffer)) fate
+    unfolding rowAt leave
+    told-is =
+        subst (λ (y : Row). Told (y .awaits) (bytesAt s₁ (y .buffer)) fate) row-is
+        (subst (Told (row .awaits) (bytesAt s₁ (row .buffer))) fate-is (fate-told x s₁ (k₁ .sound) (k₁ .fixed) a (k₁ .projected) t named i))
+
+    pub met-is : sameLengths ≡ true → done s₁ (e .lengths) (e .made) ≡ settled s₁ t r fate
     unfolding underTag pick rowAt leave
     met-is q =
         comes-to true q ∙ ap (λ (c : Bool). pick c (settled s₁ t row (fateOf s₁ row i)) (s₁, turnedAway UnknownTag)) named
         ∙ (λ j. settled s₁ t (row-is j) (fate-is j))
 
     -- how far the operation alone comes
-    course-is : sameLengths ≡ true → nextAlone x s a e .ops t ≡ some (onward r bytes fate)
+    pub course-is : sameLengths ≡ true → nextAlone x s a e .ops t ≡ some (onward r bytes fate)
     unfolding pick feeds
     course-is q =
         ap (λ (y : Alones). y .ops t) (alone-to true q ∙ ap (feeds (x .opening) (plansOf x) (x .lengths) a (e .leaves) t i) op)
         ∙ put-here t (some (onward r bytes fate)) (a .ops)
 
-    course-other : sameLengths ≡ false → nextAlone x s a e .ops t ≡ some (isOpen r bytes)
+    pub course-other : sameLengths ≡ false → nextAlone x s a e .ops t ≡ some (isOpen r bytes)
     unfolding pick
     course-other q = ap (λ (y : Alones). y .ops t) (alone-to false q) ∙ op
 
