@@ -24,3 +24,4 @@ pub mod ListsBrought
 pub mod ProjectionSteps
 pub mod Projection
 pub mod QuietCourse
+pub mod ListsCame
