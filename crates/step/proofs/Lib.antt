@@ -25,3 +25,5 @@ pub mod ProjectionSteps
 pub mod Projection
 pub mod QuietCourse
 pub mod ListsCame
+pub mod ListsRows
+pub mod ListsWalk
