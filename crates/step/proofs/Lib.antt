@@ -27,3 +27,4 @@ pub mod QuietCourse
 pub mod ListsCame
 pub mod ListsRows
 pub mod ListsWalk
+pub mod QueueOrder
