@@ -28,3 +28,4 @@ pub mod ListsCame
 pub mod ListsRows
 pub mod ListsWalk
 pub mod QueueOrder
+pub mod QuietLists

@@ -9,6 +9,7 @@ use borrow.Author.Tests.{eq-eqb}
 use Rattle.layout.specs.Pick.{pick}
 use Rattle.layout.proofs.Tests.{not-both}
 use Rattle.domain.specs.declared.FirstCause.{FirstCause}
+use Rattle.domain.specs.declared.OsError.{OsError}
 use Rattle.completion.specs.declared.Outcome.{Outcome}
 use Rattle.completion.specs.declared.Buffer.{Buffer}
 use Rattle.completion.specs.declared.Completion.{Completion}
@@ -77,21 +78,26 @@ module _ (s : State) (sound : Sound s) (l : Lengths) (m : Made) (t : ℕ) (i : I
     unfolding fateOf planAt
     fate-calm heard = calm (s .settings) s (regionAt s (row .handle) .forced) (s .poison) row (bytesAt s (row .buffer)) i (live-in-table s sound (rowOf t) (names-live row t named) .split) (fair heard)
 
-    came-met : (f : Fate) → fateOf s row i ≡ f → done s l m ≡ settled s t row f → Came s l m
+    -- none is rejected
+    pub not-rejected : (e : OsError) (b : Buffer) (bytes : List ℕ) → fateOf s row i ≡ rejected e b bytes → done s l m ≡ settled s t row (rejected e b bytes) → ⊥
     unfolding settled Calm Told
+    not-rejected e b bytes q d = subst Calm q (fate-calm heard)
+      where
+        told-is : Told (row .awaits) (bytesAt s (row .buffer)) (rejected e b bytes)
+        told-is = subst (Told (row .awaits) (bytesAt s (row .buffer))) q (unfold fateOf in told (s .settings) (planOf (regionAt s (row .handle))) (regionAt s (row .handle) .forced) (s .poison) row (bytesAt s (row .buffer)) i)
+
+        heard : isAway (done s l m .1) ≡ false
+        heard = ap (λ (y : State × Reply). isAway (y .1)) d ∙ rejection-heard (planOf (regionAt s (row .handle))) (row .awaits) e b (told-is .0)
+
+    came-met : (f : Fate) → fateOf s row i ≡ f → done s l m ≡ settled s t row f → Came s l m
+    unfolding settled Calm
     came-met (away f) q d = turned f d
     came-met (awaits a bytes) q d = goes t i br named a bytes q d
     came-met (ends o b bytes cause) q d =
         let heard : isAway (done s l m .1) ≡ false = unfold isAway settled in ap (λ (y : State × Reply). isAway (y .1)) d in
         let none-is : cause ≡ none = subst Calm q (fate-calm heard) in
         finishes t i br named o b bytes (q ∙ ap (ends o b bytes) none-is) (d ∙ ap (λ (c : Option FirstCause). settled s t row (ends o b bytes c)) none-is)
-    came-met (rejected f b bytes) q d = absurd (subst Calm q (fate-calm heard))
-      where
-        told-is : Told (row .awaits) (bytesAt s (row .buffer)) (rejected f b bytes)
-        told-is = subst (Told (row .awaits) (bytesAt s (row .buffer))) q (unfold fateOf in told (s .settings) (planOf (regionAt s (row .handle))) (regionAt s (row .handle) .forced) (s .poison) row (bytesAt s (row .buffer)) i)
-
-        heard : isAway (done s l m .1) ≡ false
-        heard = ap (λ (y : State × Reply). isAway (y .1)) d ∙ rejection-heard (planOf (regionAt s (row .handle))) (row .awaits) f b (told-is .0)
+    came-met (rejected e b bytes) q d = absurd (not-rejected e b bytes q d)
 
   came-brought : (isAway (done s l m .1) ≡ false → FairTo s row (row .awaits) i) → Came s l m
   unfolding underTag pick

@@ -18,7 +18,7 @@ use Rattle.step.specs.Lists.{planAt, HostMay, Hosted}
 use Rattle.step.specs.Alone.{Alones}
 use Rattle.step.specs.Demand3.{Start, isListed, FairTo, Fair, Fits}
 use Rattle.step.proofs.ProjectionReached.{Reached, nextAlone, reached-left, reached-next}
-use Rattle.step.proofs.ListsCame.{Came, came}
+use Rattle.step.proofs.ListsCame.{Came, FairCall, came}
 use Rattle.step.proofs.ListsRows.{Moved, row-moved}
 
 -- the host's writes do not bear on what is fair
@@ -47,9 +47,12 @@ module _ (laws : StepLaws) (x : Start) (s : State) (a : Alones) (k : Reached x s
   unfolding Fits
   behind = f .3
 
-  pub came-next : Came s₁ (e .lengths) (e .made)
+  pub fair-next : FairCall s₁ (e .lengths) (e .made)
   unfolding Fits Fair rowAt leave replyTo
-  came-next = came s₁ (reached-left laws x s a k (e .leaves) host-may .sound) (e .lengths) (e .made) listed (λ i b h. fair-left s (e .leaves) _ _ i (f .2 i b h))
+  fair-next i b h = fair-left s (e .leaves) _ _ i (f .2 i b h)
+
+  pub came-next : Came s₁ (e .lengths) (e .made)
+  came-next = came s₁ (reached-left laws x s a k (e .leaves) host-may .sound) (e .lengths) (e .made) listed fair-next
 
   pub reached : Reached x (next s e) (nextAlone x s a e)
   reached = reached-next laws x s a k e host-may

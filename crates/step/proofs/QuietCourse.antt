@@ -166,7 +166,7 @@ module _ (laws : StepLaws) (x : Start) (s : State) (a : Alones) (k : Reached x s
     k₁ = reached-left laws x s a k (e .leaves) w
 
     -- none is open under the tag
-    shut : (c : Course) → ((r : Row) (bytes : List ℕ) → c ≡ isOpen r bytes → ⊥) → a .ops t ≡ some c → nextAlone x s a e .ops t ≡ some c
+    pub shut : (c : Course) → ((r : Row) (bytes : List ℕ) → c ≡ isOpen r bytes → ⊥) → a .ops t ≡ some c → nextAlone x s a e .ops t ≡ some c
     unfolding pick
     shut c n op = by-lengths (true-or-false (eqLengths (e .lengths) (x .lengths)))
       where
