@@ -29,3 +29,4 @@ pub mod ListsRows
 pub mod ListsWalk
 pub mod QueueOrder
 pub mod QuietLists
+pub mod CardBytes
