@@ -30,3 +30,4 @@ pub mod ListsWalk
 pub mod QueueOrder
 pub mod QuietLists
 pub mod CardBytes
+pub mod CardLists
