@@ -105,8 +105,6 @@ module _ (s : State) (i : Sound s) (r : ℕ) (live : isLive (rowAt s r .awaits) 
   unfolding tagAt
   row-of-its-tag = row-of-tag r (rowAt s r .generation) (small-row s i r (live-below s i r live))
 
-  pub named-by-its-tag : names (rowAt s (rowOf (tagAt s r))) (tagAt s r) ≡ true
+  pub generation-of-its-tag : generationOf (tagAt s r) ≡ rowAt s r .generation
   unfolding tagAt
-  named-by-its-tag =
-      ap (λ (n : ℕ). names (rowAt s n) (tagAt s r)) row-of-its-tag
-      ∙ names-by (rowAt s r) (tagAt s r) live (sym (generation-of-tag r (rowAt s r .generation) (small-row s i r (live-below s i r live))))
+  generation-of-its-tag = generation-of-tag r (rowAt s r .generation) (small-row s i r (live-below s i r live))

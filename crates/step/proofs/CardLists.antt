@@ -49,7 +49,7 @@ use Rattle.step.proofs.QuietLists.{next-first}
 abbrev pub Clear : (ℕ → Type 0) → State → ℕ → Type 0
 Clear P s y = (r : ℕ) → P r → isWrite (rowAt s r .awaits) ≡ true → Mapped s (rowAt s r) y → ⊥
 
-write-live : (a : Awaits) → isWrite a ≡ true → isLive a ≡ true
+pub write-live : (a : Awaits) → isWrite a ≡ true → isLive a ≡ true
 unfolding isWrite isLive
 write-live Nothing e = e
 write-live (Piece (Page a b) s) e = refl

@@ -31,3 +31,4 @@ pub mod QueueOrder
 pub mod QuietLists
 pub mod CardBytes
 pub mod CardLists
+pub mod Demand3
