@@ -1,20 +1,19 @@
 -- What the other proofs use of the rules of one operation: what is awaited next has the same range, the bytes stay as many, only an operation that awaits
 -- a piece is rejected; and under demand 3's suppositions none is rejected and none poisons.
-use mathlib.Core.Path.{_≡_, refl, sym, ap, _∙_}
-use mathlib.Core.Bool.{Bool, true, false, _&&_, _||_}
-use mathlib.Core.Option.{Option, none, some}
+use mathlib.Core.Path.{_≡_, refl, ap}
+use mathlib.Core.Bool.{Bool, true, false}
+use mathlib.Core.Option.{none}
 use mathlib.Core.List.{List}
-use Prim.Native.Nat.{ℕ, _+_, _-_, _≤_, _<_, min}
+use Prim.Native.Nat.{ℕ, _+_, _-_, _≤_, _<_}
 use native.Mathlib.Omega.{arith}
 use borrow.Author.Tests.{eqb-true, eq-eqb, ltb-false}
-use lib.Dec.{eqb, ltb}
+use lib.Dec.{eqb}
 use lib.ListN.{length}
 use Rattle.layout.specs.Pick.{pick}
 use Rattle.layout.proofs.Tests.{not-both, and-left, and-right, and-both}
 use Rattle.regionmap.specs.declared.Position.{Position}
 use Rattle.regionmap.specs.Map.{pieceSize}
 use Rattle.iobuf.proofs.Laws.{turn-laws}
-use Rattle.domain.specs.declared.FirstCause.{FirstCause}
 use Rattle.domain.specs.declared.Poisoned.{Poisoned}
 use Rattle.platform.specs.declared.Answer.{Answer}
 use Rattle.platform.specs.declared.Answer.the-variants.{Count, Error, Refused, RefusedWith}
@@ -30,7 +29,7 @@ use Rattle.model.specs.declared.Awaits.the-variants.{Nothing, Piece, Flush}
 use Rattle.model.specs.declared.Row.{Row}
 use Rattle.model.specs.State.{State}
 use Rattle.model.specs.Opening.{Plan}
-use Rattle.step.specs.Rules.{firstOf, lastOf, pieceOf, pieceLength, Input, Input.answered, Input.flushed, Fate, Fate.away, Fate.awaits, Fate.ends, Fate.rejected, turnedBack, isWritten, ticketOf, writtenAs, lastPiece, abovePiece, isRefusal, firstRefused, isWhole, goesOn, splitAfter, pieceAnswered, flushEnds, answerRules, flushRules, rules}
+use Rattle.step.specs.Rules.{firstOf, lastOf, pieceOf, pieceLength, Input, Input.answered, Input.flushed, Fate, Fate.away, Fate.awaits, Fate.ends, Fate.rejected, turnedBack, isWritten, ticketOf, writtenAs, lastPiece, isRefusal, firstRefused, isWhole, goesOn, pieceAnswered, flushEnds, answerRules, flushRules, rules}
 use Rattle.step.specs.Step.{isLive}
 use Rattle.step.specs.Sound.{rangeStart, rangeEnd, SplitFits}
 use Rattle.step.specs.Lists.{planAt}

@@ -1,14 +1,12 @@
 -- Queue tags and live rows: a tag is its row and its generation, a tag that names a row is that row's, and a live row lies within the table.
 use mathlib.Core.Path.{_≡_, refl, sym, ap, _∙_}
-use mathlib.Core.Logic.{_≢_}
-use mathlib.Core.Bool.{Bool, true, false, _&&_}
-use mathlib.Core.List.{List}
-use Prim.Native.Nat.{ℕ, _+_, _*_, _%_, _/_, _≤_, _<_, _^_}
+use mathlib.Core.Bool.{true, false}
+use Prim.Native.Nat.{ℕ, _<_, _^_}
 use native.Mathlib.Decide.{decLt}
 use native.Mathlib.Omega.{arith}
 use borrow.Author.Tests.{eqb-true, eq-eqb}
 use lib.Dec.{eqb}
-use lib.ListN.{length, getD, List·getD-eq-default}
+use lib.ListN.{length, List·getD-eq-default}
 use Rattle.layout.proofs.Tests.{not-both, and-left, and-right, and-both}
 use Rattle.model.specs.declared.Awaits.{Awaits}
 use Rattle.model.specs.declared.Awaits.the-variants.{Nothing, Piece, Flush}
@@ -49,12 +47,6 @@ unfolding isLive awaiting
 dead-awaiting Nothing e = refl
 dead-awaiting (Piece k s) e = clash (cc)
 dead-awaiting (Flush t) e = clash (cc)
-
-pub awaiting-live : (a : Awaits) → awaiting a ≡ 1 → isLive a ≡ true
-unfolding isLive awaiting
-awaiting-live Nothing e = clash e
-awaiting-live (Piece k s) e = refl
-awaiting-live (Flush t) e = refl
 
 -- a freed row is not live
 pub freed-dead : (g : ℕ) → isLive (freed g .awaits) ≡ false

@@ -1,7 +1,7 @@
 -- The card through one of demand 3's lists, byte by byte: a byte follows the one open write that is mapped to it, by what that operation is given; and it stays
 -- where there is none.
 use mathlib.Core.Path.{_≡_, refl, sym, ap, _∙_, subst}
-use mathlib.Core.Logic.{_≢_, _⊎_, inl, inr}
+use mathlib.Core.Logic.{_≢_, inl, inr}
 use mathlib.Core.Bool.{Bool, true, false}
 use mathlib.Core.Option.{Option, none, some}
 use mathlib.Core.List.{List, [], _∷_, _++_}
@@ -12,32 +12,31 @@ use lib.Dec.{eqb}
 use lib.ListN.{getD}
 use Rattle.layout.specs.Pick.{pick}
 use Rattle.layout.proofs.Tests.{not-both}
-use Rattle.regionmap.specs.Map.{Map, place}
+use Rattle.regionmap.specs.Map.{place}
 use Rattle.posix.specs.Posix.{Card}
 use Rattle.domain.specs.declared.Poisoned.{Poisoned}
 use Rattle.model.specs.declared.Awaits.{Awaits}
 use Rattle.model.specs.declared.Awaits.the-variants.{Nothing, Piece, Flush}
 use Rattle.model.specs.declared.Kind.the-variants.{Page, Read}
 use Rattle.model.specs.declared.Row.{Row}
-use Rattle.model.specs.State.{State, freed}
+use Rattle.model.specs.State.{State}
 use Rattle.model.specs.Opening.{Plan}
 use Rattle.model.specs.Memory.{planIn}
 use Rattle.step.specs.Questions.{regionAt}
 use Rattle.step.specs.Rules.{Input}
 use Rattle.step.specs.Step.{queueTag, rowAt, rowOf, generationOf, raised, isLive, names, bytesAt, planOf}
 use Rattle.step.specs.Sound.{rangeStart, rangeEnd}
-use Rattle.step.specs.Laws.{Made, Event, leave, next, replyTo, StepLaws}
-use Rattle.step.specs.Lists.{brought, isAway, loose, planAt, leftIn, Given, givenAs, givenBy, given, wroteBy, tagIn, cardBy, cardAfter, HostMay}
+use Rattle.step.specs.Laws.{Event, leave, next, replyTo, StepLaws}
+use Rattle.step.specs.Lists.{brought, isAway, planAt, leftIn, Given, givenAs, givenBy, given, wroteBy, tagIn, cardBy, cardAfter, HostMay}
 use Rattle.step.specs.Alone.{Course, Course.isOpen, Course.completed, Course.wasRefused, Alones}
-use Rattle.step.specs.Demand3.{Start, plansOf, Alike, Mapped, isWrite, Fits}
+use Rattle.step.specs.Demand3.{Start, plansOf, Mapped, isWrite, Fits}
 use Rattle.step.proofs.AloneTags.{clash, freed-dead, tag-of, names-live, names-generation}
 use Rattle.step.proofs.CardBytes.{wrote-byte, wrote-alike, wrote-none, wrote-away}
-use Rattle.step.proofs.ListsBrought.{Brings, brings}
-use Rattle.step.proofs.ListsRows.{Moved, Turned, turned-on, OfBefore, of-before}
+use Rattle.step.proofs.ListsBrought.{brings}
+use Rattle.step.proofs.ListsRows.{Turned, turned-on, OfBefore, of-before}
 use Rattle.step.proofs.ListsWalk.{host-may, listed, behind, reached, moved}
 use Rattle.step.proofs.ProjectionFixed.{next-kept}
-use Rattle.step.proofs.ProjectionHost.{alike-left}
-use Rattle.step.proofs.ProjectionFed.{Met, met}
+use Rattle.step.proofs.ProjectionFed.{met}
 use Rattle.step.proofs.ProjectionReached.{Reached, nextAlone, reached-left}
 use Rattle.step.proofs.ProjectionSteps.{unnamed, steps-alone}
 use Rattle.step.proofs.QuietCourse.{fedBy, courseBy, course-next, next-forced}

@@ -1,25 +1,25 @@
 -- Demand 3: whatever order the storage card answers in. Each operation open at first ends alike in both lists, by what it is given; the rest follows from
 -- soundness, row by row and byte by byte.
 use mathlib.Core.Path.{_≡_, refl, sym, ap, _∙_, subst}
-use mathlib.Core.Logic.{_≢_, _⊎_, inl, inr}
+use mathlib.Core.Logic.{_≢_, inl, inr}
 use mathlib.Core.Bool.{Bool, true, false}
-use mathlib.Core.Option.{Option, none, some}
+use mathlib.Core.Option.{some}
 use mathlib.Core.List.{List, [], _∷_, _++_}
-use Prim.Native.Nat.{ℕ, _+_, _≤_, _<_}
+use Prim.Native.Nat.{ℕ, _≤_, _<_}
 use native.Mathlib.Decide.{ℕ-discrete, decLt}
 use native.Mathlib.Omega.{arith}
-use lib.ListN.{length, take}
+use lib.ListN.{take}
 use Rattle.layout.proofs.Tests.{not-both}
 use Rattle.posix.specs.Posix.{Card}
 use Rattle.model.specs.declared.Opening.{Opening}
 use Rattle.model.specs.declared.Row.{Row}
-use Rattle.model.specs.State.{State, freed, liveRows}
-use Rattle.step.specs.Step.{queueTag, rowAt, rowOf, generationOf, raised, isLive, names}
+use Rattle.model.specs.State.{State, freed}
+use Rattle.step.specs.Step.{rowAt, rowOf, raised, isLive}
 use Rattle.step.specs.Sound.{times}
 use Rattle.step.specs.Laws.{Event, next, run, StepLaws}
-use Rattle.step.specs.Lists.{Completed, Given, given, gets, added, takings, cardAfter, Hosted, tagAt}
+use Rattle.step.specs.Lists.{Completed, Given, given, gets, cardAfter, tagAt}
 use Rattle.step.specs.Alone.{Course, Course.isOpen, Course.completed, Course.wasRefused, Alones, noneYet}
-use Rattle.step.specs.Demand3.{Start, openedBy, after, alonesAfter, aloneAt, Projection, Fits, AllDone, Apart, GivenAlike, Mapped, isWrite, Supposed, OneEach, NoMore, Agreed, Demand3}
+use Rattle.step.specs.Demand3.{Start, openedBy, after, alonesAfter, aloneAt, Fits, AllDone, Apart, GivenAlike, Mapped, isWrite, Supposed, OneEach, NoMore, Demand3}
 use Rattle.step.proofs.AloneTags.{clash, dead-awaiting, names-live, row-of-its-tag, generation-of-its-tag}
 use Rattle.step.proofs.CardLists.{Clear, Every, write-live, cold, hot, byteAlong}
 use Rattle.step.proofs.ListsRows.{Turned, turned-on, idle-stays}

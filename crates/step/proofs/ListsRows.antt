@@ -1,29 +1,28 @@
 -- What one event of demand 3's lists does to each row: the row stays, or its operation goes on in it, or it is freed with its generation raised. So an
 -- operation keeps its region and its range, and a row that awaits nothing stays as it is.
 use mathlib.Core.Path.{_≡_, refl, sym, ap, _∙_, subst}
-use mathlib.Core.Logic.{_≢_, _⊎_, inl, inr}
-use mathlib.Core.Bool.{Bool, true, false}
+use mathlib.Core.Logic.{_⊎_, inl, inr}
+use mathlib.Core.Bool.{true, false}
 use mathlib.Core.Option.{none}
-use mathlib.Core.List.{List, _∷_}
+use mathlib.Core.List.{List}
 use Prim.Native.Nat.{ℕ}
 use lib.ListN.{getD}
 use Rattle.layout.proofs.Tests.{not-both}
-use Rattle.completion.specs.declared.Completion.{Completion}
 use Rattle.completion.specs.declared.Reply.{Reply}
 use Rattle.model.specs.declared.Lengths.{Lengths}
 use Rattle.model.specs.declared.Awaits.{Awaits}
 use Rattle.model.specs.declared.Row.{Row}
 use Rattle.model.specs.State.{State, freed}
 use Rattle.step.specs.Questions.{regionAt}
-use Rattle.step.specs.Rules.{Input, Fate, Fate.awaits, Fate.ends}
-use Rattle.step.specs.Step.{rowAt, rowOf, raised, isLive, names, bytesAt, planOf, awaitsNow, poisonWith, going, freeing, settled, fateOf, taken}
+use Rattle.step.specs.Rules.{Input, Fate.awaits, Fate.ends}
+use Rattle.step.specs.Step.{rowAt, rowOf, raised, isLive, bytesAt, planOf, awaitsNow, poisonWith, going, freeing, settled, fateOf, taken}
 use Rattle.step.specs.Sound.{rangeStart, rangeEnd}
 use Rattle.step.specs.Laws.{Made, done}
 use Rattle.step.specs.Demand3.{isWrite}
 use Rattle.step.proofs.AloneTags.{freed-dead, live-in, names-live}
 use Rattle.step.proofs.AloneRules.{Onward, Told, told}
 use Rattle.step.proofs.ListsCame.{Came, Came.turned, Came.silent, Came.took, Came.goes, Came.finishes}
-use Rattle.step.proofs.ProjectionSet.{Changed, by-row}
+use Rattle.step.proofs.ProjectionSet.{by-row}
 
 pub data Moved (x x′ : Row) : Type 0 where
   stays : x′ ≡ x → Moved x x′

@@ -5,7 +5,7 @@ use mathlib.Core.Option.{some}
 use mathlib.Core.List.{List, [], _∷_, _++_}
 use Prim.Native.Nat.{ℕ}
 use Rattle.step.specs.Rules.{Input}
-use Rattle.step.specs.Laws.{Event, run, StepLaws}
+use Rattle.step.specs.Laws.{Event, StepLaws}
 use Rattle.step.specs.Lists.{brought, Hosted, HostMay}
 use Rattle.step.specs.Alone.{Alones, noneYet, alones}
 use Rattle.step.specs.Demand3.{Start, openedBy, after, alonesAfter, StepsAlone, Projection}

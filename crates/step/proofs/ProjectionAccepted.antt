@@ -1,12 +1,12 @@
 -- A submission: refused it changes nothing; accepted it is an operation alone from its buffer as it is then, under the queue tag of the reply.
-use mathlib.Core.Path.{_≡_, refl, sym, ap, _∙_, subst}
-use mathlib.Core.Bool.{true, false}
-use mathlib.Core.Option.{Option, none, some}
+use mathlib.Core.Path.{_≡_, refl, sym, ap, _∙_}
+use mathlib.Core.Bool.{true}
+use mathlib.Core.Option.{some}
 use mathlib.Core.List.{List}
 use Prim.Native.Nat.{ℕ, _+_, _<_, _^_}
 use native.Mathlib.Omega.{arith}
-use lib.ListN.{length, set}
-use Rattle.layout.proofs.Tests.{not-both}
+use lib.ListN.{length, drop}
+use lib.Seq.{drop-cons}
 use Rattle.iobuf.specs.Turn.{stretch, withStretch}
 use Rattle.iobuf.proofs.Laws.{turn-laws}
 use Rattle.model.specs.declared.Opening.{Opening}
@@ -15,19 +15,19 @@ use Rattle.model.specs.declared.Request.{Request}
 use Rattle.model.specs.declared.Asked.{Asked}
 use Rattle.model.specs.declared.Asked.the-variants.{Yes, No}
 use Rattle.model.specs.declared.Row.{Row}
-use Rattle.model.specs.State.{State, freed, awaiting}
-use Rattle.step.specs.Questions.{regionAt, heldAt}
-use Rattle.step.specs.Step.{queueTag, topOf, rowAt, rowOf, generationOf, isLive, names, claimedBy, oneMore, accepted, submitted, verdictOf}
-use Rattle.step.specs.Sound.{Sound}
-use Rattle.step.specs.Alone.{Course, Course.isOpen, Alones, putAt, tagGiven, begins}
-use Rattle.step.specs.Demand3.{Start, plansOf, Projected}
+use Rattle.model.specs.State.{State, awaiting}
+use Rattle.step.specs.Questions.{heldAt}
+use Rattle.step.specs.Step.{queueTag, topOf, rowAt, generationOf, isLive, names, claimedBy, oneMore, accepted, submitted, verdictOf}
+use Rattle.step.specs.Sound.{times, Sound}
+use Rattle.step.specs.Alone.{Course.isOpen, Alones, tagGiven, begins}
+use Rattle.step.specs.Demand3.{Start, Projected}
 use Rattle.step.proofs.Answers.{Passed}
-use Rattle.step.proofs.Counts.{live-set}
-use Rattle.step.proofs.Taken.{top-row, live-more}
+use Rattle.step.proofs.Counts.{times-same}
+use Rattle.step.proofs.Taken.{top-row}
 use Rattle.step.proofs.AloneTags.{live-awaiting, small-row, row-of-tag, generation-of-tag, names-live, names-by}
 use Rattle.step.proofs.ProjectionFixed.{Fixed}
 use Rattle.step.proofs.ProjectionHost.{in-pool, not-held}
-use Rattle.step.proofs.ProjectionSet.{Changed, Replaced, projected-set}
+use Rattle.step.proofs.ProjectionSet.{projected-set}
 
 module _ (x : Start) (s : State) (i : Sound s) (fx : Fixed x s) (a : Alones) (p : Projected s a) (k : Kind) (q : Request) where
   abbrev top : ℕ
@@ -46,9 +46,12 @@ module _ (x : Start) (s : State) (i : Sound s) (fx : Fixed x s) (a : Alones) (p 
     top-in : top < length (s .rows)
     top-in = let lt = top-row s i (ok .room) in let e = i .rows in omega (arith, lt, e)
 
+    times-top : times top (s .free) ≡ 1 + times top (drop 1 (s .free))
+    unfolding topOf
+    times-top = ap (times top) (drop-cons (s .free) 0 0 (let room = ok .room in omega (arith, i .balance, i .live, room))) ∙ times-same top (drop 1 (s .free))
+
     top-awaits : awaiting (rowAt s top .awaits) ≡ 0
-    unfolding rowAt
-    top-awaits = omega (arith, live-set (s .rows) top new (freed 0) top-in, live-more s i (ok .room) new)
+    top-awaits = omega (arith, times-top, i .free-once top (top-row s i (ok .room)))
 
     top-dead : isLive (rowAt s top .awaits) ≡ true → ⊥
     top-dead live = omega (arith, live-awaiting (rowAt s top .awaits) live, top-awaits)

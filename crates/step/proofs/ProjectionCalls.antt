@@ -1,6 +1,5 @@
 -- Every call keeps the projection, and so does every event that the host may make.
 use mathlib.Core.Path.{_≡_, refl, sym, ap, _∙_, subst}
-use mathlib.Core.Logic.{_≢_}
 use mathlib.Core.Bool.{Bool, true, false}
 use mathlib.Core.List.{List, [], _∷_}
 use Prim.Native.Nat.{ℕ, _<_}
@@ -23,20 +22,18 @@ use Rattle.model.specs.declared.Lengths.{Lengths}
 use Rattle.model.specs.declared.Call.{Call}
 use Rattle.model.specs.declared.Call.the-variants.{Write, ReadPage, Answer, Flushed, Take, SetGate, SetReadOnly, SetForced, ReportPoison}
 use Rattle.model.specs.State.{Region, noRegion, State}
-use Rattle.model.specs.Memory.{plansIn}
 use Rattle.model.proofs.Maps.{plans-length}
 use Rattle.step.specs.Questions.{regionAt}
-use Rattle.step.specs.Rules.{Input, Input.answered, Input.flushed}
+use Rattle.step.specs.Rules.{Input.answered, Input.flushed}
 use Rattle.step.specs.Step.{writeVerdict, readVerdict, planOf, taken, withRegions, withPoison, marked, withGate, withReadOnly, withForced, called, eqLengths, step}
 use Rattle.step.specs.Sound.{Sound}
-use Rattle.step.specs.Laws.{Made, Made.calls, Made.looks, Event, leave, done, next, replyTo, StepLaws}
-use Rattle.step.specs.Lists.{HostMay}
-use Rattle.step.specs.Alone.{Alones, putAt, heardCall, heard, aloneNext}
+use Rattle.step.specs.Laws.{Made, Made.calls, Made.looks, done}
+use Rattle.step.specs.Alone.{Alones, putAt, heardCall, heard}
 use Rattle.step.specs.Demand3.{Start, plansOf, Projected}
 use Rattle.step.proofs.Answers.{write-passed, read-passed}
-use Rattle.step.proofs.ProjectionFixed.{Kept, done-kept, Fixed, fixed-kept, fixed-left, plans-set}
+use Rattle.step.proofs.ProjectionFixed.{Fixed, plans-set}
 use Rattle.step.proofs.ProjectionSet.{put-here, put-there}
-use Rattle.step.proofs.ProjectionRows.{projected-rows, projected-left, alike-kept}
+use Rattle.step.proofs.ProjectionRows.{projected-rows, alike-kept}
 use Rattle.step.proofs.ProjectionFed.{projected-fed}
 use Rattle.step.proofs.ProjectionAccepted.{projected-submitted}
 

@@ -1,35 +1,32 @@
 -- An answer or a flush result under a queue tag: the table does with the row what is done with the operation alone, or neither changes.
 use mathlib.Core.Path.{_≡_, refl, sym, ap, _∙_, subst}
-use mathlib.Core.Logic.{_≢_}
 use mathlib.Core.Bool.{Bool, true, false}
 use mathlib.Core.Option.{Option, none, some}
-use mathlib.Core.List.{List, [], _∷_}
-use Prim.Native.Nat.{ℕ, _<_}
+use mathlib.Core.List.{List}
+use Prim.Native.Nat.{ℕ}
 use native.Mathlib.Decide.{ℕ-discrete}
 use lib.ListN.{length}
 use Rattle.layout.specs.Pick.{pick}
 use Rattle.layout.proofs.Tests.{not-both}
 use Rattle.iobuf.proofs.Laws.{turn-laws}
 use Rattle.domain.specs.declared.FirstCause.{FirstCause}
-use Rattle.domain.specs.declared.Poisoned.{Poisoned}
 use Rattle.completion.specs.declared.Refusal.the-variants.{UnknownTag}
 use Rattle.completion.specs.declared.Completion.{Completion}
-use Rattle.completion.specs.declared.Reply.{Reply}
 use Rattle.completion.specs.declared.Reply.the-variants.{No as turnedAway}
 use Rattle.model.specs.declared.Row.{Row}
 use Rattle.model.specs.State.{Owner, State, freed}
 use Rattle.step.specs.Questions.{regionAt}
 use Rattle.step.specs.Rules.{Input, Fate, Fate.away, Fate.awaits, Fate.ends, Fate.rejected}
 use Rattle.step.specs.Step.{queueTag, rowAt, rowOf, isLive, names, bytesAt, planOf, awaitsNow, oneLess, poisonWith, going, freeing, settled, fateOf, underTag}
-use Rattle.step.specs.Sound.{InTable, Sound}
-use Rattle.step.specs.Lists.{tagAt, planAt}
+use Rattle.step.specs.Sound.{Sound}
+use Rattle.step.specs.Lists.{tagAt}
 use Rattle.step.specs.Alone.{Course, Course.isOpen, Course.completed, Course.wasRefused, Alones, putAt, onward, blamed, aloneFate, feeds}
-use Rattle.step.specs.Demand3.{Start, plansOf, Alike, IsAlone, Projected}
+use Rattle.step.specs.Demand3.{Start, plansOf, Alike, Projected}
 use Rattle.step.proofs.AloneTags.{clash, freed-dead, live-in, names-live, names-generation, names-by, named-tag, one-tag}
-use Rattle.step.proofs.AloneRules.{Onward, Told, told}
+use Rattle.step.proofs.AloneRules.{Told, told}
 use Rattle.step.proofs.ProjectionFixed.{Fixed}
 use Rattle.step.proofs.ProjectionHost.{sole, in-pool, live-in-table, same-fate}
-use Rattle.step.proofs.ProjectionSet.{put-here, put-there, Changed, Replaced, projected-set}
+use Rattle.step.proofs.ProjectionSet.{put-here, put-there, Changed, projected-set}
 use Rattle.step.proofs.ProjectionRows.{projected-same}
 
 -- the operations alone after a fate of the one under the tag t

@@ -2,8 +2,8 @@
 -- piece of a read under way; and the rules say of the row what they say of the operation alone.
 use mathlib.Core.Path.{_≡_, refl, sym, ap, _∙_, subst}
 use mathlib.Core.Logic.{_≢_, _⊎_, inl, inr}
-use mathlib.Core.Bool.{Bool, true, false}
-use mathlib.Core.List.{List, [], _∷_, _++_}
+use mathlib.Core.Bool.{true}
+use mathlib.Core.List.{List, [], _++_}
 use Prim.Native.Nat.{ℕ, suc, _+_, _*_, _≤_, _<_}
 use native.Mathlib.Nat.{suc-mul, mul-le-mul-right}
 use native.Mathlib.Decide.{ℕ-discrete}
@@ -17,11 +17,11 @@ use Rattle.iobuf.specs.Turn.{stretch}
 use Rattle.iobuf.specs.TurnLaws.{Fits}
 use Rattle.model.specs.declared.Opening.{Opening}
 use Rattle.model.specs.declared.Row.{Row}
-use Rattle.model.specs.State.{Owner, Owner.host, Owner.table, Owner.lost, State, freed, awaiting}
+use Rattle.model.specs.State.{Owner, Owner.host, Owner.table, Owner.lost, State, freed}
 use Rattle.model.specs.Opening.{Plan}
 use Rattle.model.specs.Memory.{planIn}
 use Rattle.step.specs.Questions.{isHost, regionAt, heldAt}
-use Rattle.step.specs.Rules.{Input, Fate, rules}
+use Rattle.step.specs.Rules.{Input, rules}
 use Rattle.step.specs.Step.{rowAt, isLive, bytesAt, planOf, fateOf}
 use Rattle.step.specs.Sound.{rowHolds, rowsHold, tableHas, InTable, Sound}
 use Rattle.step.specs.Laws.{leave}
@@ -29,7 +29,7 @@ use Rattle.step.specs.Lists.{loose, planAt, LooseIn, HostMay}
 use Rattle.step.specs.Alone.{Alones, withLeft, aloneFate}
 use Rattle.step.specs.Demand3.{Start, plansOf, Alike}
 use Rattle.step.proofs.Counts.{hold-set, holds-none}
-use Rattle.step.proofs.AloneTags.{clash, live-awaiting, freed-dead, dead-awaiting, live-in, live-below}
+use Rattle.step.proofs.AloneTags.{live-awaiting, freed-dead, dead-awaiting, live-in, live-below}
 use Rattle.step.proofs.ProjectionFixed.{Fixed}
 
 -- ---- who holds a buffer

@@ -1,11 +1,9 @@
 -- The tables of a history, with the operations alone beside them: an opening leaves such a pair, and every event that the host may make leaves another.
-use mathlib.Core.Path.{_≡_, refl, sym, ap, _∙_, subst}
-use mathlib.Core.Bool.{true, false}
-use mathlib.Core.Option.{Option, none, some}
+use mathlib.Core.Path.{_≡_, refl, sym, ap, _∙_}
+use mathlib.Core.Bool.{false}
 use mathlib.Core.List.{List, [], _∷_, _++_}
 use Prim.Native.Nat.{ℕ}
-use lib.ListN.{getD, List·getD-map}
-use Rattle.layout.specs.Pick.{pick}
+use lib.ListN.{List·getD-map}
 use Rattle.layout.proofs.Tests.{not-both}
 use Rattle.regionmap.specs.Words.{runsIn, mapIn}
 use Rattle.model.specs.declared.Lengths.{Lengths}
@@ -18,7 +16,7 @@ use Rattle.step.specs.Step.{rowAt, isLive}
 use Rattle.step.specs.Sound.{Sound}
 use Rattle.step.specs.Laws.{Made, Made.calls, Made.looks, Event, leave, done, next, replyTo, run, StepLaws}
 use Rattle.step.specs.Lists.{HostMay, Hosted}
-use Rattle.step.specs.Alone.{Course.isOpen, Alones, noneYet, aloneNext, alones}
+use Rattle.step.specs.Alone.{Alones, noneYet, aloneNext, alones}
 use Rattle.step.specs.Demand3.{Start, plansOf, openedBy, Projected}
 use Rattle.step.proofs.Counts.{all-alike}
 use Rattle.step.proofs.AloneTags.{clash, freed-dead}

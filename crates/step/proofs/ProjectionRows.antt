@@ -16,8 +16,8 @@ use Rattle.step.specs.Step.{queueTag, rowAt, rowOf, isLive, names, bytes
 use Rattle.step.specs.Sound.{Sound}
 use Rattle.step.specs.Laws.{leave}
 use Rattle.step.specs.Lists.{loose, planAt, HostMay, tagAt}
-use Rattle.step.specs.Alone.{Course, Course.isOpen, Alones}
-use Rattle.step.specs.Demand3.{Alike, IsAlone, Projected}
+use Rattle.step.specs.Alone.{Course.isOpen, Alones}
+use Rattle.step.specs.Demand3.{Alike, Projected}
 use Rattle.step.proofs.ProjectionHost.{alike-left}
 
 pub record Unmoved (s s′ : State) (a a′ : Alones) : Type 0 where

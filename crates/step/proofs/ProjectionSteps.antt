@@ -2,18 +2,15 @@
 use mathlib.Core.Path.{_≡_, refl, sym, ap, _∙_, subst}
 use mathlib.Core.Logic.{_⊎_, inl, inr}
 use mathlib.Core.Bool.{Bool, true, false}
-use mathlib.Core.Option.{Option, none, some}
+use mathlib.Core.Option.{some}
 use mathlib.Core.List.{List, [], _∷_, _++_, append-nil}
 use Prim.Native.Nat.{ℕ}
-use lib.ListN.{length}
 use Rattle.layout.specs.Pick.{pick}
-use Rattle.layout.proofs.Tests.{not-both, true-or-false, refused}
-use Rattle.completion.specs.declared.Completion.{Completion}
+use Rattle.layout.proofs.Tests.{true-or-false, refused}
 use Rattle.completion.specs.declared.Refusal.{Refusal}
 use Rattle.completion.specs.declared.Refusal.the-variants.{Unfit, UnknownTag}
 use Rattle.completion.specs.declared.Reply.{Reply}
 use Rattle.completion.specs.declared.Reply.the-variants.{No as turnedAway}
-use Rattle.model.specs.declared.Lengths.{Lengths}
 use Rattle.model.specs.declared.Row.{Row}
 use Rattle.model.specs.State.{State, freed}
 use Rattle.step.specs.Rules.{Input, Fate, Fate.away, Fate.awaits, Fate.ends, Fate.rejected}
@@ -21,13 +18,13 @@ use Rattle.step.specs.Step.{rowAt, rowOf, raised, names, bytesAt, comple
 use Rattle.step.specs.Laws.{Event, leave, done, next, replyTo, StepLaws}
 use Rattle.step.specs.Lists.{brought, isAway, Completed, HostMay}
 use Rattle.step.specs.Alone.{Course, Course.isOpen, Course.completed, Course.wasRefused, Alones, onward, aloneFate, feeds, heard, aloneNext}
-use Rattle.step.specs.Demand3.{Start, plansOf, Projected, StepsAlone}
+use Rattle.step.specs.Demand3.{Start, plansOf, StepsAlone}
 use Rattle.step.proofs.AloneTags.{clash, names-live}
 use Rattle.step.proofs.AloneRules.{Told}
 use Rattle.step.proofs.ListsBrought.{Brings, brings}
 use Rattle.step.proofs.ProjectionHost.{live-in-table}
-use Rattle.step.proofs.ProjectionSet.{put-here, Changed, bytes-here}
-use Rattle.step.proofs.ProjectionFed.{fedWith, feeds-none, Met, open-named, met, long, fed-met, fate-told}
+use Rattle.step.proofs.ProjectionSet.{put-here, bytes-here}
+use Rattle.step.proofs.ProjectionFed.{met, long, fate-told}
 use Rattle.step.proofs.ProjectionReached.{Reached, nextAlone, reached-left}
 
 -- ---- what becomes of the row that a tag names, beside its operation alone

@@ -2,15 +2,14 @@
 -- ready and what is added, in order, is what is taken and what stays ready.
 use mathlib.Core.Path.{_≡_, refl, sym, ap, _∙_, subst}
 use mathlib.Core.Bool.{true, false}
-use mathlib.Core.Option.{none}
 use mathlib.Core.List.{List, [], _∷_, _++_, append-nil, append-assoc}
-use Prim.Native.Nat.{ℕ, zero, suc, _+_}
+use Prim.Native.Nat.{ℕ, suc, _+_}
 use native.Mathlib.Omega.{arith}
-use lib.ListN.{length, getD, set, take, drop, length-append, drop-of-length-le}
+use lib.ListN.{length, getD, set, drop, length-append, drop-of-length-le}
 use lib.Seq.{drop-length, drop-append-seam}
 use Rattle.completion.specs.declared.Completion.{Completion}
 use Rattle.completion.specs.declared.Reply.{Reply}
-use Rattle.completion.specs.declared.Reply.the-variants.{No as turnedAway, Took}
+use Rattle.completion.specs.declared.Reply.the-variants.{No as turnedAway}
 use Rattle.model.specs.declared.Lengths.{Lengths}
 use Rattle.model.specs.declared.Awaits.{Awaits}
 use Rattle.model.specs.declared.Awaits.the-variants.{Nothing, Piece, Flush}
@@ -18,8 +17,8 @@ use Rattle.model.specs.declared.Row.{Row}
 use Rattle.model.specs.State.{State, freed, awaiting, liveRows}
 use Rattle.model.specs.Opening.{Plan}
 use Rattle.step.specs.Questions.{regionAt}
-use Rattle.step.specs.Rules.{Fate.awaits, Fate.ends}
-use Rattle.step.specs.Step.{rowAt, rowOf, raised, isLive, names, planOf, awaitsNow, completionOf, asksFor, going, freeing, settled, taken}
+use Rattle.step.specs.Rules.{Fate.awaits}
+use Rattle.step.specs.Step.{rowAt, rowOf, raised, isLive, planOf, awaitsNow, completionOf, asksFor, going, freeing, settled, taken}
 use Rattle.step.specs.Laws.{Made, Event, leave, done, next, replyTo, run, StepLaws}
 use Rattle.step.specs.Lists.{tookBy, addedBy, added, takings}
 use Rattle.step.specs.Alone.{Alones}

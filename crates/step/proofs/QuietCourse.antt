@@ -1,15 +1,15 @@
 -- The course of an operation alone through one of demand 3's lists is a function of what it is given: while the forced marks and the first cause stay as
 -- they are, nothing else reaches it.
-use mathlib.Core.Path.{_≡_, refl, sym, ap, _∙_, subst}
+use mathlib.Core.Path.{_≡_, refl, sym, ap, _∙_}
 use mathlib.Core.Logic.{_≢_, _⊎_, inl, inr}
 use mathlib.Core.Bool.{Bool, true, false}
 use mathlib.Core.Option.{Option, none, some}
 use mathlib.Core.List.{List, [], _∷_, _++_}
-use Prim.Native.Nat.{ℕ, _≤_}
+use Prim.Native.Nat.{ℕ}
 use native.Mathlib.Omega.{arith}
-use borrow.Author.Tests.{eqb-false, eq-eqb}
+use borrow.Author.Tests.{eqb-false}
 use lib.Dec.{eqb}
-use lib.ListN.{length, take, drop, getD}
+use lib.ListN.{take, drop, getD}
 use lib.Seq.{take-take}
 use Rattle.layout.specs.Pick.{pick}
 use Rattle.layout.proofs.Tests.{not-both, true-or-false}
@@ -18,19 +18,17 @@ use Rattle.domain.specs.declared.Poisoned.{Poisoned}
 use Rattle.domain.specs.declared.OsError.{OsError}
 use Rattle.completion.specs.declared.Buffer.{Buffer}
 use Rattle.completion.specs.declared.Reply.{Reply}
-use Rattle.model.specs.declared.Opening.{Opening}
 use Rattle.model.specs.declared.Awaits.{Awaits}
 use Rattle.model.specs.declared.Awaits.the-variants.{Nothing, Piece, Flush}
 use Rattle.model.specs.declared.Row.{Row}
-use Rattle.model.specs.declared.Call.{Call}
 use Rattle.model.specs.declared.Call.the-variants.{Write, ReadPage, Answer, Flushed, Take, SetGate, SetReadOnly, SetForced, ReportPoison}
 use Rattle.model.specs.State.{State}
 use Rattle.model.specs.Opening.{Plan}
 use Rattle.model.specs.Memory.{planIn}
 use Rattle.step.specs.Questions.{regionAt}
-use Rattle.step.specs.Rules.{Input, Input.answered, Input.flushed, Fate, Fate.away, Fate.awaits, Fate.ends, Fate.rejected, rules}
-use Rattle.step.specs.Step.{rowAt, rowOf, bytesAt, names, planOf, asksFor, rejection, settled, eqLengths}
-use Rattle.step.specs.Laws.{Made, Made.calls, Made.looks, Event, leave, done, next, replyTo, StepLaws}
+use Rattle.step.specs.Rules.{Input, Fate, Fate.away, Fate.awaits, Fate.ends, Fate.rejected, rules}
+use Rattle.step.specs.Step.{rowAt, rowOf, bytesAt, planOf, asksFor, rejection, settled, eqLengths}
+use Rattle.step.specs.Laws.{Made, Made.calls, Made.looks, Event, leave, replyTo, StepLaws}
 use Rattle.step.specs.Lists.{broughtBy, brought, isAway, loose, planAt, leftIn, Given, givenAs, givenBy, HostMay}
 use Rattle.step.specs.Alone.{Course, Course.isOpen, Course.completed, Course.wasRefused, Alones, withLeft, onward, aloneFate, feeds, heardCall, heard, aloneNext}
 use Rattle.step.specs.Demand3.{Start, plansOf, listedCall, isListed}

@@ -1,6 +1,6 @@
 -- An operation alone through one of demand 3's lists: its course follows from what it is given, it is never refused, and its completion, once, is what it gets
 -- from the table.
-use mathlib.Core.Path.{_≡_, refl, sym, ap, _∙_, subst, subst₂}
+use mathlib.Core.Path.{_≡_, refl, sym, ap, _∙_, subst}
 use mathlib.Core.Logic.{_≢_, _⊎_, inl, inr}
 use mathlib.Core.Bool.{Bool, true, false}
 use mathlib.Core.Option.{Option, none, some}
@@ -12,13 +12,12 @@ use Rattle.layout.specs.Pick.{pick}
 use Rattle.layout.proofs.Tests.{true-or-false}
 use Rattle.domain.specs.declared.Poisoned.{Poisoned}
 use Rattle.completion.specs.declared.Completion.{Completion}
-use Rattle.completion.specs.declared.Reply.{Reply}
 use Rattle.model.specs.declared.Row.{Row}
 use Rattle.model.specs.State.{State}
 use Rattle.step.specs.Rules.{Input, Fate, Fate.away, Fate.awaits, Fate.ends, Fate.rejected}
-use Rattle.step.specs.Step.{rowAt, rowOf, bytesAt, awaitsNow, names, fateOf, settled, eqLengths}
-use Rattle.step.specs.Laws.{Event, leave, done, next, replyTo, run, StepLaws}
-use Rattle.step.specs.Lists.{brought, isAway, HostMay, isBrought, Given, givenBy, given, Completed, withBytes, addedBy, gets, tagIn}
+use Rattle.step.specs.Step.{rowAt, rowOf, bytesAt, awaitsNow, settled, eqLengths}
+use Rattle.step.specs.Laws.{Event, leave, done, next, StepLaws}
+use Rattle.step.specs.Lists.{brought, isAway, HostMay, isBrought, Given, givenBy, given, Completed, withBytes, addedBy, gets}
 use Rattle.step.specs.Alone.{Course, Course.isOpen, Course.completed, Course.wasRefused, Alones, onward, alones}
 use Rattle.step.specs.Demand3.{Start, FairTo, Fits, StepsAlone}
 use Rattle.step.proofs.AloneTags.{clash}
@@ -186,8 +185,8 @@ through laws x forced first t b (e ∷ es) s a k f fo fi c op buf n =
     let c′ = courseBy x forced first c vs in
     let op′ : nextAlone x s a e .ops t ≡ some c′ = course-next laws x s a k e w li t c op ∙ (λ j. some (courseBy x (fo j) (fi j) c vs)) in
     let z =
-        through laws x forced first t b es (next s e) (nextAlone x s a e) (reached laws x s a k e es f) (behind laws x s a k e es f) (next-forced x s a e li ∙ fo) (next-first laws x s a k e es f ∙ fi) c′ op′
-        (course-buffer x forced first b c vs buf) (λ q. kept-next laws x s a k e es f t c op n (op′ ∙ ap some q)) in
+    through laws x forced first t b es (next s e) (nextAlone x s a e) (reached laws x s a k e es f) (behind laws x s a k e es f) (next-forced x s a e li ∙ fo) (next-first laws x s a k e es f ∙ fi) c′ op′
+    (course-buffer x forced first b c vs buf) (λ q. kept-next laws x s a k e es f t c op n (op′ ∙ ap some q)) in
     let both = course-append x forced first c vs (given (next s e) es t) in
     record {
       course = z .course ∙ ap some (sym both);
