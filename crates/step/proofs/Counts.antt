@@ -1,8 +1,8 @@
 -- What the counts of a table say after one row is replaced, a row is taken off the free stack, or a table is opened. Each by induction on the list.
-use mathlib.Core.Path.{_≡_, refl, _∙_}
+use mathlib.Core.Path.{_≡_, refl, sym, _∙_}
 use mathlib.Core.Logic.{_≢_}
 use mathlib.Core.Bool.{Bool, true, false}
-use mathlib.Core.List.{List, [], _∷_}
+use mathlib.Core.List.{List, [], _∷_, _++_}
 use Prim.Native.Nat.{ℕ, zero, suc, _+_, _≤_, _<_}
 use native.Mathlib.Nat.{not-suc-le-zero, le-of-suc-le-suc}
 use native.Mathlib.Decide.{ℕ-discrete}
@@ -11,9 +11,11 @@ use borrow.Author.Tests.{eq-eqb, ne-eqb}
 use lib.Dec.{eqb}
 use lib.ListN.{length, getD, set, replicate}
 use Rattle.layout.specs.Pick.{pick}
+use Rattle.completion.specs.declared.Buffer.the-variants.{Back}
+use Rattle.completion.specs.declared.Completion.{Completion}
 use Rattle.model.specs.declared.Row.{Row}
-use Rattle.model.specs.State.{Owner.host, Owner.lost, freed, upFrom, awaiting, liveRows}
-use Rattle.step.specs.Sound.{times, rowHolds, rowsHold, tableHas}
+use Rattle.model.specs.State.{Owner, Owner.host, Owner.table, Owner.lost, freed, upFrom, awaiting, liveRows}
+use Rattle.step.specs.Sound.{times, rowHolds, rowsHold, holds, readyHold, tableHas}
 
 -- ---- one row is replaced
 
@@ -34,10 +36,39 @@ unfolding pick
 pick-zero true = refl
 pick-zero false = refl
 
--- a row that awaits nothing holds no buffer
+-- a row that awaits nothing holds no buffer, and a live one its own and no other
 pub holds-none : (b : ℕ) (x : Row) → awaiting (x .awaits) ≡ 0 → rowHolds b x ≡ 0
 unfolding rowHolds
 holds-none b x e = rw e (pick-zero (eqb (x .buffer) b))
+
+pub holds-own : (x : Row) → rowHolds (x .buffer) x ≡ awaiting (x .awaits)
+unfolding rowHolds pick
+holds-own x = rw (eq-eqb (x .buffer) (x .buffer) refl)
+
+pub holds-other : (b : ℕ) (x : Row) → b ≢ x .buffer → rowHolds b x ≡ 0
+unfolding rowHolds pick
+holds-other b x n = rw (ne-eqb (x .buffer) b (λ e. n (sym e)))
+
+-- ---- the completions and the owners
+
+pub ready-join : (b : ℕ) (xs ys : List Completion) → readyHold b (xs ++ ys) ≡ readyHold b xs + readyHold b ys
+unfolding readyHold
+ready-join b [] ys = omega arith
+ready-join b (x ∷ xs) ys = omega (arith, ready-join b xs ys)
+
+pub back-holds-own : (b n : ℕ) → holds b (Back b n) ≡ 1
+unfolding holds pick
+back-holds-own b n = rw (eq-eqb b b refl)
+
+pub back-holds-other : (b k n : ℕ) → b ≢ k → holds b (Back k n) ≡ 0
+unfolding holds pick
+back-holds-other b k n ne = rw (ne-eqb k b (λ e. ne (sym e)))
+
+pub has-most : (w : Owner) → tableHas w ≤ 1
+unfolding tableHas
+has-most host = omega arith
+has-most table = omega arith
+has-most lost = omega arith
 
 -- ---- the free stack
 

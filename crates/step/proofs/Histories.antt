@@ -1,78 +1,100 @@
 -- Every table that calls after an opening have left is sound: by induction on the events, since the host's writes touch nothing that soundness speaks
 -- of, a call keeps it, and no call changes the remembered lengths.
 use mathlib.Core.Path.{_≡_, refl, sym, ap, _∙_}
-use mathlib.Core.Bool.{Bool, true, false}
 use mathlib.Core.List.{List, [], _∷_}
 use Prim.Native.Nat.{ℕ}
+use lib.Dec.{ltb}
 use lib.ListN.{length}
-use Rattle.layout.specs.Pick.{pick}
-use Rattle.completion.specs.declared.Refusal.the-variants.{Unfit}
+use Rattle.completion.specs.declared.Completion.{Completion}
 use Rattle.completion.specs.declared.Reply.{Reply}
-use Rattle.completion.specs.declared.Reply.the-variants.{No as turnedAway}
 use Rattle.model.specs.declared.Lengths.{Lengths}
+use Rattle.model.specs.declared.Row.{Row}
 use Rattle.model.specs.declared.Request.{Request}
 use Rattle.model.specs.declared.Call.{Call}
-use Rattle.model.specs.declared.Call.the-variants.{Write, ReadPage}
+use Rattle.model.specs.declared.Call.the-variants.{Write, ReadPage, Answer, Flushed, Take, SetGate, SetReadOnly, SetForced, ReportPoison}
 use Rattle.model.specs.declared.Verdict.{Verdict}
 use Rattle.model.specs.declared.Verdict.the-variants.{No as refuses, Accept}
-use Rattle.model.specs.State.{State}
+use Rattle.model.specs.State.{Region, State}
 use Rattle.step.specs.Questions.{regionAt}
-use Rattle.step.specs.Step.{rowAt, accepted, submitted, writeVerdict, readVerdict, called, eqLengths, step}
-use Rattle.step.specs.Sound.{Sound, InTable}
-use Rattle.step.specs.Laws.{Event, leave, next, run, Pools}
+use Rattle.step.specs.Rules.{Input, Input.answered, Input.flushed, Fate, Fate.away, Fate.awaits, Fate.ends, Fate.rejected}
+use Rattle.step.specs.Step.{rowAt, accepted, submitted, writeVerdict, readVerdict, rowOf, names, going, freeing, settled, fateOf, underTag, taken}
+use Rattle.step.specs.Step.{withRegions, withPoison, marked, withGate, withReadOnly, withForced, called, eqLengths, step}
+use Rattle.step.specs.Sound.{Sound}
+use Rattle.step.specs.Laws.{Made, Made.calls, Made.looks, Event, leave, done, next, run, Pools}
+use Rattle.step.proofs.Picked.{by-pick}
+use Rattle.step.proofs.Marked.{keeps-besides}
 
 pub leaves : (s : State) (pool : List ℕ) → Sound s → length pool ≡ length (s .pool) → Sound (leave s pool)
-unfolding leave regionAt rowAt
-leaves s pool i e = record {
-  numbers = i .numbers;
-  room = i .room;
-  pool = e ∙ i .pool;
-  pool-is = i .pool-is;
-  regions = i .regions;
-  each = i .each;
-  apart = i .apart;
-  poison = i .poison;
-  rows = i .rows;
-  live = i .live;
-  ready = i .ready;
-  submissions = i .submissions;
-  balance = i .balance;
-  free-once = i .free-once;
-  free-rows = i .free-rows;
-  most = i .most;
-  generations = i .generations;
-  owners = i .owners;
-  holders = i .holders;
-  in-table = λ r below live.
-      let t = i .in-table r below live in
-      record { region = t .region; buffer = t .buffer; some = t .some; in-data = t .in-data; length = t .length; split = t .split; before = t .before };
-  seqs = i .seqs;
-}
+unfolding leave
+leaves s pool i e = keeps-besides s (s .regions) (s .poison) pool i refl e
 
--- no call changes the lengths that the opening was given
-submitted-lengths : (s : State) (q : Request) (v : Verdict) → submitted s q v .0 .lengths ≡ s .lengths
-unfolding submitted accepted
-submitted-lengths s q (refuses f) = refl
-submitted-lengths s q (Accept r k p) = refl
+-- ---- no call changes the settings and the lengths that the opening was given
 
-called-lengths : (s : State) (c : Call) → called s c .0 .lengths ≡ s .lengths
-unfolding called
-called-lengths s (Write q) = submitted-lengths s q (writeVerdict s q)
-called-lengths s (ReadPage q) = submitted-lengths s q (readVerdict s q)
+pub record Stays (s : State) (z : State × Reply) : Type 0 where
+  pub settings : z .0 .settings ≡ s .settings
+  pub lengths : z .0 .lengths ≡ s .lengths
 
-picked-lengths : (t : Bool) (s : State) (x : State × Reply) → x .0 .lengths ≡ s .lengths → pick t x (s, turnedAway Unfit) .0 .lengths ≡ s .lengths
-unfolding pick
-picked-lengths true s x e = e
-picked-lengths false s x e = refl
+module _ (s : State) where
+  stays : {x : Reply} → Stays s (s, x)
+  stays = record { settings = refl; lengths = refl }
 
-step-lengths : (s : State) (l : Lengths) (c : Call) → step s l c .0 .lengths ≡ s .lengths
-unfolding step
-step-lengths s l c = picked-lengths (eqLengths l (s .lengths)) s (called s c) (called-lengths s c)
+  submitted-stays : (q : Request) (v : Verdict) → Stays s (submitted s q v)
+  unfolding submitted accepted
+  submitted-stays q (refuses f) = stays
+  submitted-stays q (Accept r k p) = record { settings = refl; lengths = refl }
+
+  settled-stays : (t : ℕ) (r : Row) (f : Fate) → Stays s (settled s t r f)
+  unfolding settled going freeing
+  settled-stays t r (away f) = stays
+  settled-stays t r (awaits a bytes) = record { settings = refl; lengths = refl }
+  settled-stays t r (ends o b bytes cause) = record { settings = refl; lengths = refl }
+  settled-stays t r (rejected e b bytes) = record { settings = refl; lengths = refl }
+
+  under-stays : (t : ℕ) (i : Input) → Stays s (underTag s t i)
+  unfolding underTag
+  under-stays t i = by-pick (names (rowAt s (rowOf t)) t) (Stays s) (λ n. settled-stays t (rowAt s (rowOf t)) (fateOf s (rowAt s (rowOf t)) i)) (λ n. stays)
+
+  taken-stays : (l : List Completion) → Stays s (taken s l)
+  unfolding taken
+  taken-stays [] = stays
+  taken-stays (c ∷ more) = record { settings = refl; lengths = refl }
+
+  marked-stays : (h : ℕ) (g : Region) → Stays s (marked s h g)
+  unfolding marked withRegions
+  marked-stays h g = by-pick (ltb h (s .settings .regions)) (Stays s) (λ n. record { settings = refl; lengths = refl }) (λ n. stays)
+
+  called-stays : (c : Call) → Stays s (called s c)
+  unfolding called withPoison
+  called-stays (Write q) = submitted-stays q (writeVerdict s q)
+  called-stays (ReadPage q) = submitted-stays q (readVerdict s q)
+  called-stays (Answer t a back flushes) = under-stays t (answered a back flushes)
+  called-stays (Flushed t result) = under-stays t (flushed result)
+  called-stays Take = taken-stays (s .ready)
+  called-stays (SetGate h x) = marked-stays h (withGate (regionAt s h) x)
+  called-stays (SetReadOnly h x) = marked-stays h (withReadOnly (regionAt s h) x)
+  called-stays (SetForced h x) = marked-stays h (withForced (regionAt s h) x)
+  called-stays (ReportPoison cause) = record { settings = refl; lengths = refl }
+
+  pub done-stays : (l : Lengths) (m : Made) → Stays s (done s l m)
+  unfolding done step
+  done-stays l (calls c) = by-pick (eqLengths l (s .lengths)) (Stays s) (λ same. called-stays c) (λ other. stays)
+  done-stays l (looks x) = stays
+
+-- ---- the events
 
 module _ (keeps : (s : State) (l : Lengths) (c : Call) → Sound s → Sound (step s l c .0)) where
+  keeps-done : (s : State) (l : Lengths) (m : Made) → Sound s → Sound (done s l m .0)
+  unfolding done
+  keeps-done s l (calls c) i = keeps s l c i
+  keeps-done s l (looks x) i = i
+
+  pub keeps-next : (s : State) (e : Event) → Sound s → length (e .leaves) ≡ length (s .pool) → Sound (next s e)
+  unfolding next
+  keeps-next s e i len = keeps-done (leave s (e .leaves)) (e .lengths) (e .made) (leaves s (e .leaves) i len)
+
   pub histories : (s : State) → Sound s → (n : ℕ) → s .lengths .pool ≡ n → (es : List Event) → Pools n es → Sound (run s es)
   unfolding run next Pools leave
   histories s i n e [] p = i
   histories s i n e (x ∷ es) p =
-      histories (next s x) (keeps (leave s (x .leaves)) (x .lengths) (x .call) (leaves s (x .leaves) i (p .0 ∙ sym (i .pool ∙ e)))) n
-      (ap (λ (l : Lengths). l .pool) (step-lengths (leave s (x .leaves)) (x .lengths) (x .call)) ∙ e) es (p .1)
+      histories (next s x) (keeps-next s x i (p .0 ∙ sym (i .pool ∙ e))) n
+      (ap (λ (l : Lengths). l .pool) (done-stays (leave s (x .leaves)) (x .lengths) (x .made) .lengths) ∙ e) es (p .1)

@@ -1,8 +1,20 @@
 -- Proofs about the definitions of specs/.
+pub mod Picked
+pub mod Places
 pub mod Counts
+pub mod Named
 pub mod Answers
+pub mod Fates
+pub mod Buffers
+pub mod Marked
+pub mod Replaced
 pub mod Taken
 pub mod Accepted
+pub mod Going
+pub mod Freed
+pub mod TakenOut
+pub mod Settled
+pub mod Away
 pub mod Opened
 pub mod Memory
 pub mod Numbers

@@ -21,7 +21,7 @@ use Rattle.model.proofs.Maps.{plans-length, few-runs, small-generation}
 use Rattle.model.proofs.Laws.{opening-laws}
 use Rattle.step.specs.Questions.{regionAt}
 use Rattle.step.specs.Step.{rowAt}
-use Rattle.step.specs.Sound.{readyHold, PoisonFits, SoundRegion, Sound}
+use Rattle.step.specs.Sound.{readyHold, SoundRegion, Sound}
 use Rattle.step.proofs.Counts.{times-above, times-in, live-none, hold-none, all-alike, had-none}
 
 module _ (o : Opening) (plan : List ℕ) (l : Lengths) (pool : List ℕ) (ok : opens o plan l ≡ true) where
@@ -67,7 +67,7 @@ module _ (o : Opening) (plan : List ℕ) (l : Lengths) (pool : List ℕ) (ok : o
   none-live r = rw row-at
 
   pub opened-sound : length pool ≡ l .pool → Sound first
-  unfolding opened readyHold PoisonFits freed
+  unfolding opened readyHold freed
   opened-sound e = record {
     numbers = opening-laws .numbers o plan l ok;
     room = opening-laws .room o plan l ok;
@@ -76,7 +76,6 @@ module _ (o : Opening) (plan : List ℕ) (l : Lengths) (pool : List ℕ) (ok : o
     regions = length-map (plansIn (o .regions) plan) atFirst ∙ plans-length (o .regions) plan;
     each = each;
     apart = λ h k p q lh lk. rw (map-at h, map-at k) (apart h k p q lh lk);
-    poison = tt;
     rows = length-replicate (o .depth) (freed 0);
     live = sym (live-none (o .depth) 0);
     ready = refl;

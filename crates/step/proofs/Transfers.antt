@@ -1,10 +1,10 @@
 -- The pieces of an accepted operation act like one transfer: what the questions and soundness make sure of is what the transfer's theorem asks.
-use mathlib.Core.Path.{_≡_, sym, ap, _∙_}
-use Prim.Native.Nat.{ℕ, suc, _+_, _*_, _≤_, _<_}
-use native.Mathlib.Nat.{suc-mul, mul-le-mul-right, add-left-cancel}
+use mathlib.Core.Path.{_≡_}
+use Prim.Native.Nat.{ℕ, _+_, _<_}
+use native.Mathlib.Nat.{add-left-cancel}
 use native.Mathlib.Omega.{arith}
 use lib.ListN.{length}
-use Rattle.transfer.specs.Transfer.{CardAndPool, Operation, wrote, readIn, whole, Accepted, Distinct, OneWrite, OneRead}
+use Rattle.transfer.specs.Transfer.{CardAndPool, wrote, readIn, whole, Accepted, Distinct, OneWrite, OneRead}
 use Rattle.transfer.proofs.Theorem.{transfers}
 use Rattle.model.specs.declared.Request.{Request}
 use Rattle.model.specs.State.{State}
@@ -12,6 +12,7 @@ use Rattle.step.specs.Questions.{regionAt}
 use Rattle.step.specs.Sound.{Sound}
 use Rattle.step.specs.Laws.{operationOf}
 use Rattle.step.proofs.Answers.{Passed}
+use Rattle.step.proofs.Buffers.{in-pool}
 
 module _ (s : State) (q : Request) (i : Sound s) (p : Passed s q) (x : CardAndPool) (e : length (x .pool) ≡ s .lengths .pool) where
   in-capacity : (j : ℕ) → j < q .length → q .offset .0 + j < regionAt s (q .handle) .map .capacity
@@ -25,12 +26,7 @@ module _ (s : State) (q : Request) (i : Sound s) (p : Passed s q) (x : CardAndPo
     lawful = i .each (q .handle) (p .region) .lawful;
     inData = p .in-data;
     inBuffer = p .fits;
-    inPool =
-        let cap = s .settings .capacity in
-        let one : q .buffer * cap + cap ≡ suc (q .buffer) * cap = sym (suc-mul (q .buffer) cap) in
-        let all : suc (q .buffer) * cap ≤ s .settings .buffers * cap = mul-le-mul-right cap (p .buffer) in
-        let whole-pool = i .pool-is in
-        omega (arith, one, all, e, whole-pool);
+    inPool = in-pool s i (q .buffer) (p .buffer) (x .pool) e;
   }
 
   pub one-write : OneWrite (operationOf s q) x (whole wrote (operationOf s q) x)
