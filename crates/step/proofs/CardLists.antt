@@ -26,7 +26,7 @@ use Rattle.step.specs.Questions.{regionAt}
 use Rattle.step.specs.Rules.{Input}
 use Rattle.step.specs.Step.{queueTag, rowAt, rowOf, generationOf, raised, isLive, names, bytesAt, planOf}
 use Rattle.step.specs.Sound.{rangeStart, rangeEnd}
-use Rattle.step.specs.Laws.{Event, leave, next, replyTo, StepLaws}
+use Rattle.step.specs.Laws.{Event, leave, next, replyTo}
 use Rattle.step.specs.Lists.{brought, isAway, planAt, leftIn, Given, givenAs, givenBy, given, wroteBy, tagIn, cardBy, cardAfter, HostMay}
 use Rattle.step.specs.Alone.{Course, Course.isOpen, Course.completed, Course.wasRefused, Alones}
 use Rattle.step.specs.Demand3.{Start, plansOf, Mapped, isWrite, Fits}
@@ -67,10 +67,10 @@ mapped-before s e x x′ y o m = record {
     map-is : regionAt s (x .handle) .map ≡ regionAt (next s e) (x′ .handle) .map
     map-is = sym (ap (λ (h : ℕ). regionAt (next s e) h .map) (o .handle) ∙ ap (λ (g : Plan). g .map) (next-kept s e .plans (x .handle)))
 
-module _ (laws : StepLaws) (x : Start) (s : State) (a : Alones) (k : Reached x s a) (e : Event) (es : List Event) (f : Fits s (e ∷ es)) where
+module _ (x : Start) (s : State) (a : Alones) (k : Reached x s a) (e : Event) (es : List Event) (f : Fits s (e ∷ es)) where
   clear-next : (P : ℕ → Type 0) (y : ℕ) → Clear P s y → Clear P (next s e) y
   clear-next P y c r p w m =
-      let o = of-before (rowAt s r) (rowAt (next s e) r) (write-live (rowAt (next s e) r .awaits) w) (moved laws x s a k e es f r) in
+      let o = of-before (rowAt s r) (rowAt (next s e) r) (write-live (rowAt (next s e) r .awaits) w) (moved x s a k e es f r) in
       c r p (sym (o .write) ∙ w) (mapped-before s e (rowAt s r) (rowAt (next s e) r) y o m)
 
 -- ---- a byte that no open write is mapped to
@@ -92,12 +92,12 @@ card-cold x s a k e card y c = by-reply (isAway (replyTo s e))
     by-reply true = refl
     by-reply false = wrote-away s (k .sound) (rowOf t) (bytesAt (leave s (e .leaves)) (r .buffer)) (brought t (e .made)) card y (c (rowOf t) tt)
 
-module _ (laws : StepLaws) (x : Start) where
+module _ (x : Start) where
   pub cold : (l : List Event) (s : State) (a : Alones) → Reached x s a → Fits s l → (card : Card) (y : ℕ) → Clear Every s y → cardAfter s l card y ≡ card y
   unfolding cardAfter
   cold [] s a k f card y c = refl
   cold (e ∷ es) s a k f card y c =
-      cold es (next s e) (nextAlone x s a e) (reached laws x s a k e es f) (behind laws x s a k e es f) (cardBy s e card) y (clear-next laws x s a k e es f Every y c)
+      cold es (next s e) (nextAlone x s a e) (reached x s a k e es f) (behind x s a k e es f) (cardBy s e card) y (clear-next x s a k e es f Every y c)
       ∙ card-cold x s a k e card y c
 
 -- ---- a byte that one open write is mapped to
@@ -117,7 +117,7 @@ module _ (x : Start) (forced : ℕ → Bool) (first : Poisoned) (y : ℕ) where
   byte-append c [] ws old = refl
   byte-append c (v ∷ vs) ws old = byte-append (fedBy x forced first c v) vs ws (byteOf c v old)
 
-module _ (laws : StepLaws) (x : Start) (s : State) (a : Alones) (k : Reached x s a) (e : Event) (w : HostMay s (e .leaves)) (forced : ℕ → Bool) (first : Poisoned) (card : Card) (y : ℕ) where
+module _ (x : Start) (s : State) (a : Alones) (k : Reached x s a) (e : Event) (w : HostMay s (e .leaves)) (forced : ℕ → Bool) (first : Poisoned) (card : Card) (y : ℕ) where
   abbrev s₁ : State
   s₁ = leave s (e .leaves)
 
@@ -131,14 +131,14 @@ module _ (laws : StepLaws) (x : Start) (s : State) (a : Alones) (k : Reached x s
   own-byte t i bt heard (isOpen r bytes) op left =
       let z = k .projected .only t r bytes op in
       let row = rowAt s (rowOf t) in
-      let k₁ = reached-left laws x s a k (e .leaves) w in
+      let k₁ = reached-left x s a k (e .leaves) w in
       let m = met x s₁ (k₁ .sound) (k₁ .fixed) a (k₁ .projected) t (z .0) i in
       let same : m .bytes ≡ bytes = let q = sym (m .is-open) ∙ op in cc in
       wrote-byte (planAt s row) (row .awaits) (bytesAt s₁ (row .buffer)) (some i) card y
       ∙ ap (λ (after : Card). after y) (sym (wrote-alike (planAt s row) (row .awaits) (m .bytes) (bytesAt s₁ (row .buffer)) (some i) (λ q. card y) (m .alike .same)))
       ∙ (λ j. wroteBy (k .fixed .plans (z .1 j .handle) j) (z .1 j .awaits) (same j) (some i) (λ q. card y) y)
-  own-byte t i bt heard (completed c) op left = absurd (not-both (steps-alone laws x s a k e w t i bt .none-open (λ r bytes z. clash (let q = sym op ∙ z in cc)) .0) heard)
-  own-byte t i bt heard wasRefused op left = absurd (not-both (steps-alone laws x s a k e w t i bt .none-open (λ r bytes z. clash (let q = sym op ∙ z in cc)) .0) heard)
+  own-byte t i bt heard (completed c) op left = absurd (not-both (steps-alone x s a k e w t i bt .none-open (λ r bytes z. clash (let q = sym op ∙ z in cc)) .0) heard)
+  own-byte t i bt heard wasRefused op left = absurd (not-both (steps-alone x s a k e w t i bt .none-open (λ r bytes z. clash (let q = sym op ∙ z in cc)) .0) heard)
 
   module _ (r g t : ℕ) (at : rowOf t ≡ r) (gen : generationOf t ≡ g) (clear : Clear (λ j. j ≢ r) s y) (turned : Turned g (rowAt s r)) where
     -- another tag names another row
@@ -158,7 +158,7 @@ module _ (laws : StepLaws) (x : Start) (s : State) (a : Alones) (k : Reached x s
       where
         by-name : (b : Bool) → names (rowAt s (rowOf u)) u ≡ b → writes u (some i) y ≡ card y
         by-name true q = wrote-away s (k .sound) (rowOf u) (bytesAt s₁ (rowAt s (rowOf u) .buffer)) (some i) card y (clear (rowOf u) (other-row u n q))
-        by-name false q = absurd (not-both (unnamed laws x s a k e w u i bu q .0) heard)
+        by-name false q = absurd (not-both (unnamed x s a k e w u i bu q .0) heard)
 
     module _ (c : Course) (op : a .ops t ≡ some c) where
       abbrev left : List ℕ
@@ -206,16 +206,16 @@ module _ (laws : StepLaws) (x : Start) (s : State) (a : Alones) (k : Reached x s
           by-reply true q = ap along (sym (away-none (brought t (e .made))))
           by-reply false q = heard-byte q (brought (tagIn (e .made)) (e .made)) refl
 
-pub hot : (laws : StepLaws) (x : Start) (forced : ℕ → Bool) (first : Poisoned) (y r g t : ℕ) → rowOf t ≡ r → generationOf t ≡ g → (l : List Event) (s : State) (a : Alones) → Reached x s a → Fits s l → a .forced ≡ forced
+pub hot : (x : Start) (forced : ℕ → Bool) (first : Poisoned) (y r g t : ℕ) → rowOf t ≡ r → generationOf t ≡ g → (l : List Event) (s : State) (a : Alones) → Reached x s a → Fits s l → a .forced ≡ forced
     → a .first ≡ first → (card : Card) → Clear (λ j. j ≢ r) s y → Turned g (rowAt s r) → (c : Course) → a .ops t ≡ some c → cardAfter s l card y ≡ byteAlong x forced first y c (given s l t) (card y)
 unfolding cardAfter given byteAlong
-hot laws x forced first y r g t at gen [] s a k f fo fi card clear turned c op = refl
-hot laws x forced first y r g t at gen (e ∷ es) s a k f fo fi card clear turned c op =
-    let w = host-may laws x s a k e es f in
-    let li = listed laws x s a k e es f in
+hot x forced first y r g t at gen [] s a k f fo fi card clear turned c op = refl
+hot x forced first y r g t at gen (e ∷ es) s a k f fo fi card clear turned c op =
+    let w = host-may x s a k e es f in
+    let li = listed x s a k e es f in
     let vs = givenBy s e t in
-    hot laws x forced first y r g t at gen es (next s e) (nextAlone x s a e) (reached laws x s a k e es f) (behind laws x s a k e es f) (next-forced x s a e li ∙ fo) (next-first laws x s a k e es f ∙ fi) (cardBy s e card)
-    (clear-next laws x s a k e es f (λ j. j ≢ r) y clear) (turned-on g (rowAt s r) (rowAt (next s e) r) turned (moved laws x s a k e es f r)) (courseBy x forced first c vs)
-    (course-next laws x s a k e w li t c op ∙ (λ j. some (courseBy x (fo j) (fi j) c vs)))
-    ∙ ap (byteAlong x forced first y (courseBy x forced first c vs) (given (next s e) es t)) (card-hot laws x s a k e w forced first card y r g t at gen clear turned c op)
+    hot x forced first y r g t at gen es (next s e) (nextAlone x s a e) (reached x s a k e es f) (behind x s a k e es f) (next-forced x s a e li ∙ fo) (next-first x s a k e es f ∙ fi) (cardBy s e card)
+    (clear-next x s a k e es f (λ j. j ≢ r) y clear) (turned-on g (rowAt s r) (rowAt (next s e) r) turned (moved x s a k e es f r)) (courseBy x forced first c vs)
+    (course-next x s a k e w li t c op ∙ (λ j. some (courseBy x (fo j) (fi j) c vs)))
+    ∙ ap (byteAlong x forced first y (courseBy x forced first c vs) (given (next s e) es t)) (card-hot x s a k e w forced first card y r g t at gen clear turned c op)
     ∙ sym (byte-append x forced first y c vs (given (next s e) es t) (card y))

@@ -16,7 +16,7 @@ use Rattle.model.specs.declared.Row.{Row}
 use Rattle.model.specs.State.{State, freed}
 use Rattle.step.specs.Step.{rowAt, rowOf, raised, isLive}
 use Rattle.step.specs.Sound.{times}
-use Rattle.step.specs.Laws.{Event, next, run, StepLaws}
+use Rattle.step.specs.Laws.{Event, next, run}
 use Rattle.step.specs.Lists.{Completed, Given, given, gets, cardAfter, tagAt}
 use Rattle.step.specs.Alone.{Course, Course.isOpen, Course.completed, Course.wasRefused, Alones, noneYet}
 use Rattle.step.specs.Demand3.{Start, openedBy, after, alonesAfter, aloneAt, Fits, AllDone, Apart, GivenAlike, Mapped, isWrite, Supposed, OneEach, NoMore, Demand3}
@@ -32,30 +32,30 @@ use Rattle.step.proofs.QuietLists.{doneOf, InBuffer, Through, through}
 
 -- ---- the rows through a list
 
-module _ (laws : StepLaws) (x : Start) where
+module _ (x : Start) where
   turned-all : (g r : ℕ) (l : List Event) (s : State) (a : Alones) → Reached x s a → Fits s l → Turned g (rowAt s r) → Turned g (rowAt (run s l) r)
   unfolding run
   turned-all g r [] s a k f t = t
   turned-all g r (e ∷ es) s a k f t =
-      turned-all g r es (next s e) (nextAlone x s a e) (reached laws x s a k e es f) (behind laws x s a k e es f) (turned-on g (rowAt s r) (rowAt (next s e) r) t (moved laws x s a k e es f r))
+      turned-all g r es (next s e) (nextAlone x s a e) (reached x s a k e es f) (behind x s a k e es f) (turned-on g (rowAt s r) (rowAt (next s e) r) t (moved x s a k e es f r))
 
   idle-all : (r : ℕ) (l : List Event) (s : State) (a : Alones) → Reached x s a → Fits s l → isLive (rowAt s r .awaits) ≡ false → rowAt (run s l) r ≡ rowAt s r
   unfolding run
   idle-all r [] s a k f dead = refl
   idle-all r (e ∷ es) s a k f dead =
-      let z = idle-stays (rowAt s r) (rowAt (next s e) r) dead (moved laws x s a k e es f r) in
-      idle-all r es (next s e) (nextAlone x s a e) (reached laws x s a k e es f) (behind laws x s a k e es f) (ap (λ (y : Row). isLive (y .awaits)) z ∙ dead) ∙ z
+      let z = idle-stays (rowAt s r) (rowAt (next s e) r) dead (moved x s a k e es f r) in
+      idle-all r es (next s e) (nextAlone x s a e) (reached x s a k e es f) (behind x s a k e es f) (ap (λ (y : Row). isLive (y .awaits)) z ∙ dead) ∙ z
 
 -- ---- one list, from a table of a history
 
-module _ (laws : StepLaws) (x : Start) (s : State) (a : Alones) (k : Reached x s a) (l : List Event) (f : Fits s l) (d : AllDone (run s l)) where
+module _ (x : Start) (s : State) (a : Alones) (k : Reached x s a) (l : List Event) (f : Fits s l) (d : AllDone (run s l)) where
   end : Reached x (run s l) (runAlone x s a l)
-  end = reached-run laws x s a k l (fits-hosted s l f)
+  end = reached-run x s a k l (fits-hosted s l f)
 
   -- a live row's generation is raised once, and another's stays
   pub raised-once : (r : ℕ) → isLive (rowAt s r .awaits) ≡ true → rowAt (run s l) r ≡ freed (raised (rowAt s r .generation))
   unfolding AllDone
-  raised-once r live = by-turn (turned-all laws x (rowAt s r .generation) r l s a k f (inl (live, refl)))
+  raised-once r live = by-turn (turned-all x (rowAt s r .generation) r l s a k f (inl (live, refl)))
     where
       by-turn : Turned (rowAt s r .generation) (rowAt (run s l) r) → rowAt (run s l) r ≡ freed (raised (rowAt s r .generation))
       by-turn (inl z) = absurd (not-both (z .0) (d r))
@@ -74,10 +74,10 @@ module _ (laws : StepLaws) (x : Start) (s : State) (a : Alones) (k : Reached x s
 
   no-more : NoMore s l
   no-more = record {
-    count = omega (arith, count-all laws x s a k l f, done-dead (run s l) d);
-    queue = queue-all laws x s a k l f;
+    count = omega (arith, count-all x s a k l f, done-dead (run s l) d);
+    queue = queue-all x s a k l f;
     balance = λ n.
-        let z = reached-run laws x s a k (take n l) (hosted-take s n l (fits-hosted s l f)) in
+        let z = reached-run x s a k (take n l) (hosted-take s n l (fits-hosted s l f)) in
         z .sound .balance ∙ ap (λ (o : Opening). o .depth) (z .fixed .settings ∙ sym (k .fixed .settings));
   }
 
@@ -94,7 +94,7 @@ module _ (laws : StepLaws) (x : Start) (s : State) (a : Alones) (k : Reached x s
 
     goes-through : Through x (a .forced) (a .first) s a l t (rowAt s r .buffer) begins
     unfolding InBuffer
-    goes-through = through laws x (a .forced) (a .first) t (rowAt s r .buffer) l s a k f refl refl begins (k .projected .each r live .same) refl (λ e. clash (cc))
+    goes-through = through x (a .forced) (a .first) t (rowAt s r .buffer) l s a k f refl refl begins (k .projected .each r live .same) refl (λ e. clash (cc))
 
     -- it is complete in the end
     complete : (it : Completed) × (course ≡ completed it)
@@ -116,28 +116,28 @@ module _ (laws : StepLaws) (x : Start) (s : State) (a : Alones) (k : Reached x s
 
 -- ---- two lists
 
-module _ (laws : StepLaws) (x : Start) (s : State) (a : Alones) (k : Reached x s a) (l₁ l₂ : List Event) (u : Supposed s l₁ l₂) where
+module _ (x : Start) (s : State) (a : Alones) (k : Reached x s a) (l₁ l₂ : List Event) (u : Supposed s l₁ l₂) where
   -- the courses agree
   same-given : (r : ℕ) → isLive (rowAt s r .awaits) ≡ true → given s l₁ (tagAt s r) ≡ given s l₂ (tagAt s r)
   unfolding GivenAlike
   same-given = u .alike
 
-  same-course : (r : ℕ) (live : isLive (rowAt s r .awaits) ≡ true) → course laws x s a k l₂ (u .fits₂) (u .done₂) r live ≡ course laws x s a k l₁ (u .fits₁) (u .done₁) r live
-  same-course r live = ap (courseBy x (a .forced) (a .first) (begins laws x s a k l₁ (u .fits₁) (u .done₁) r live)) (sym (same-given r live))
+  same-course : (r : ℕ) (live : isLive (rowAt s r .awaits) ≡ true) → course x s a k l₂ (u .fits₂) (u .done₂) r live ≡ course x s a k l₁ (u .fits₁) (u .done₁) r live
+  same-course r live = ap (courseBy x (a .forced) (a .first) (begins x s a k l₁ (u .fits₁) (u .done₁) r live)) (sym (same-given r live))
 
   same-generation : (r : ℕ) → rowAt (run s l₁) r .generation ≡ rowAt (run s l₂) r .generation
   same-generation r = ap (λ (y : Row). y .generation) (by-live (isLive (rowAt s r .awaits)) refl)
     where
       by-live : (b : Bool) → isLive (rowAt s r .awaits) ≡ b → rowAt (run s l₁) r ≡ rowAt (run s l₂) r
-      by-live true e = raised-once laws x s a k l₁ (u .fits₁) (u .done₁) r e ∙ sym (raised-once laws x s a k l₂ (u .fits₂) (u .done₂) r e)
-      by-live false e = idle-all laws x r l₁ s a k (u .fits₁) e ∙ sym (idle-all laws x r l₂ s a k (u .fits₂) e)
+      by-live true e = raised-once x s a k l₁ (u .fits₁) (u .done₁) r e ∙ sym (raised-once x s a k l₂ (u .fits₂) (u .done₂) r e)
+      by-live false e = idle-all x r l₁ s a k (u .fits₁) e ∙ sym (idle-all x r l₂ s a k (u .fits₂) e)
 
   same-free : (r : ℕ) → times r (run s l₁ .free) ≡ times r (run s l₂ .free)
   same-free r = by-case (decLt r (s .settings .depth))
     where
       by-case : Dec (r < s .settings .depth) → times r (run s l₁ .free) ≡ times r (run s l₂ .free)
-      by-case (yes lt) = free-after laws x s a k l₁ (u .fits₁) (u .done₁) r lt ∙ sym (free-after laws x s a k l₂ (u .fits₂) (u .done₂) r lt)
-      by-case (no n) = none-past laws x s a k l₁ (u .fits₁) (u .done₁) r (omega (arith, n)) ∙ sym (none-past laws x s a k l₂ (u .fits₂) (u .done₂) r (omega (arith, n)))
+      by-case (yes lt) = free-after x s a k l₁ (u .fits₁) (u .done₁) r lt ∙ sym (free-after x s a k l₂ (u .fits₂) (u .done₂) r lt)
+      by-case (no n) = none-past x s a k l₁ (u .fits₁) (u .done₁) r (omega (arith, n)) ∙ sym (none-past x s a k l₂ (u .fits₂) (u .done₂) r (omega (arith, n)))
 
   -- ---- the card
 
@@ -153,7 +153,7 @@ module _ (laws : StepLaws) (x : Start) (s : State) (a : Alones) (k : Reached x s
 
       followed : (l : List Event) → Fits s l → cardAfter s l card y ≡ byteAlong x (a .forced) (a .first) y (isOpen (rowAt s r) (k .projected .each r live .bytes)) (given s l (tagAt s r)) (card y)
       followed l f =
-          hot laws x (a .forced) (a .first) y r (rowAt s r .generation) (tagAt s r) (row-of-its-tag s (k .sound) r live) (generation-of-its-tag s (k .sound) r live) l s a k f refl refl card others (inl (live, refl))
+          hot x (a .forced) (a .first) y r (rowAt s r .generation) (tagAt s r) (row-of-its-tag s (k .sound) r live) (generation-of-its-tag s (k .sound) r live) l s a k f refl refl card others (inl (live, refl))
           (isOpen (rowAt s r) (k .projected .each r live .bytes)) (k .projected .each r live .same)
 
       agreed : cardAfter s l₁ card y ≡ cardAfter s l₂ card y
@@ -169,7 +169,7 @@ module _ (laws : StepLaws) (x : Start) (s : State) (a : Alones) (k : Reached x s
         by-case (yes e) = e
         by-case (no n) =
             let clear : Clear Every s y = λ r every w m. n (agreed r w m) in
-            cold laws x l₁ s a k (u .fits₁) card y clear ∙ sym (cold laws x l₂ s a k (u .fits₂) card y clear)
+            cold x l₁ s a k (u .fits₁) card y clear ∙ sym (cold x l₂ s a k (u .fits₂) card y clear)
 
 -- ---- all of it
 
@@ -178,36 +178,35 @@ alones-both : (x : Start) (h l : List Event) → alonesAfter x (h ++ l) ≡ runA
 unfolding alonesAfter after
 alones-both x h l = alone-append x (openedBy x) noneYet h l
 
-module _ (laws : StepLaws) where
-  pub demand3 : Demand3
-  unfolding Demand3 aloneAt
-  demand3 x h hosted card l₁ l₂ u = record {
-    each = each;
-    no-more₁ = no-more laws x s a k l₁ (u .fits₁) (u .done₁);
-    no-more₂ = no-more laws x s a k l₂ (u .fits₂) (u .done₂);
-    free-rows = same-free laws x s a k l₁ l₂ u;
-    generations = same-generation laws x s a k l₁ l₂ u;
-    card-bytes = same-byte laws x s a k l₁ l₂ u card;
-  }
-    where
-      s : State
-      s = after x h
+pub demand3 : Demand3
+unfolding Demand3 aloneAt
+demand3 x h hosted card l₁ l₂ u = record {
+  each = each;
+  no-more₁ = no-more x s a k l₁ (u .fits₁) (u .done₁);
+  no-more₂ = no-more x s a k l₂ (u .fits₂) (u .done₂);
+  free-rows = same-free x s a k l₁ l₂ u;
+  generations = same-generation x s a k l₁ l₂ u;
+  card-bytes = same-byte x s a k l₁ l₂ u card;
+}
+  where
+    s : State
+    s = after x h
 
-      a : Alones
-      a = alonesAfter x h
+    a : Alones
+    a = alonesAfter x h
 
-      k : Reached x (after x h) (alonesAfter x h)
-      k = reached-after laws x h hosted
+    k : Reached x (after x h) (alonesAfter x h)
+    k = reached-after x h hosted
 
-      each : (r : ℕ) → isLive (rowAt (after x h) r .awaits) ≡ true → OneEach x h l₁ l₂ r
-      each r live =
-          let z = complete laws x s a k l₁ (u .fits₁) (u .done₁) r live in
-          let e₂ = same-course laws x s a k l₁ l₂ u r live ∙ z .1 in
-          let t = tagAt (after x h) r in
-          record {
-            it = z .0;
-            first = gets-it laws x s a k l₁ (u .fits₁) (u .done₁) r live (z .0) (z .1);
-            second = gets-it laws x s a k l₂ (u .fits₂) (u .done₂) r live (z .0) e₂;
-            alone₁ = ap (λ (y : Alones). y .ops t) (alones-both x h l₁) ∙ alone-gets-it laws x s a k l₁ (u .fits₁) (u .done₁) r live (z .0) (z .1);
-            alone₂ = ap (λ (y : Alones). y .ops t) (alones-both x h l₂) ∙ alone-gets-it laws x s a k l₂ (u .fits₂) (u .done₂) r live (z .0) e₂;
-          }
+    each : (r : ℕ) → isLive (rowAt (after x h) r .awaits) ≡ true → OneEach x h l₁ l₂ r
+    each r live =
+        let z = complete x s a k l₁ (u .fits₁) (u .done₁) r live in
+        let e₂ = same-course x s a k l₁ l₂ u r live ∙ z .1 in
+        let t = tagAt (after x h) r in
+        record {
+          it = z .0;
+          first = gets-it x s a k l₁ (u .fits₁) (u .done₁) r live (z .0) (z .1);
+          second = gets-it x s a k l₂ (u .fits₂) (u .done₂) r live (z .0) e₂;
+          alone₁ = ap (λ (y : Alones). y .ops t) (alones-both x h l₁) ∙ alone-gets-it x s a k l₁ (u .fits₁) (u .done₁) r live (z .0) (z .1);
+          alone₂ = ap (λ (y : Alones). y .ops t) (alones-both x h l₂) ∙ alone-gets-it x s a k l₂ (u .fits₂) (u .done₂) r live (z .0) e₂;
+        }

@@ -12,7 +12,7 @@ use Rattle.model.specs.State.{State}
 use Rattle.step.specs.Questions.{regionAt}
 use Rattle.step.specs.Rules.{Input, Input.answered, Input.flushed}
 use Rattle.step.specs.Step.{rowAt}
-use Rattle.step.specs.Laws.{Event, leave, next, replyTo, StepLaws}
+use Rattle.step.specs.Laws.{Event, leave, next, replyTo}
 use Rattle.step.specs.Lists.{planAt, HostMay, Hosted}
 use Rattle.step.specs.Alone.{Alones}
 use Rattle.step.specs.Demand3.{Start, isListed, FairTo, Fair, Fits}
@@ -30,7 +30,7 @@ fair-left s pool r (Piece (Read a b) sp) (answered x back flushes) f = f
 fair-left s pool r (Piece (Read a b) sp) (flushed result) f = f
 fair-left s pool r (Flush t) i f = f
 
-module _ (laws : StepLaws) (x : Start) (s : State) (a : Alones) (k : Reached x s a) (e : Event) (es : List Event) (f : Fits s (e ∷ es)) where
+module _ (x : Start) (s : State) (a : Alones) (k : Reached x s a) (e : Event) (es : List Event) (f : Fits s (e ∷ es)) where
   abbrev s₁ : State
   s₁ = leave s (e .leaves)
 
@@ -51,10 +51,10 @@ module _ (laws : StepLaws) (x : Start) (s : State) (a : Alones) (k : Reached x s
   fair-next i b h = fair-left s (e .leaves) _ _ i (f .2 i b h)
 
   pub came-next : Came s₁ (e .lengths) (e .made)
-  came-next = came s₁ (reached-left laws x s a k (e .leaves) host-may .sound) (e .lengths) (e .made) listed fair-next
+  came-next = came s₁ (reached-left x s a k (e .leaves) host-may .sound) (e .lengths) (e .made) listed fair-next
 
   pub reached : Reached x (next s e) (nextAlone x s a e)
-  reached = reached-next laws x s a k e host-may
+  reached = reached-next x s a k e host-may
 
   pub moved : (r : ℕ) → Moved (rowAt s r) (rowAt (next s e) r)
   unfolding next rowAt leave

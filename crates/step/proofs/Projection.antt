@@ -5,7 +5,7 @@ use mathlib.Core.Option.{some}
 use mathlib.Core.List.{List, [], _∷_, _++_}
 use Prim.Native.Nat.{ℕ}
 use Rattle.step.specs.Rules.{Input}
-use Rattle.step.specs.Laws.{Event, StepLaws}
+use Rattle.step.specs.Laws.{Event}
 use Rattle.step.specs.Lists.{brought, Hosted, HostMay}
 use Rattle.step.specs.Alone.{Alones, noneYet, alones}
 use Rattle.step.specs.Demand3.{Start, openedBy, after, alonesAfter, StepsAlone, Projection}
@@ -17,17 +17,16 @@ one-more : (x : Start) (h : List Event) (e : Event) → alonesAfter x (h ++ (e �
 unfolding after alonesAfter alones
 one-more x h e = alone-append x (openedBy x) noneYet h (e ∷ [])
 
-module _ (laws : StepLaws) where
-  pub reached-after : (x : Start) (h : List Event) → Hosted (openedBy x) h → Reached x (after x h) (alonesAfter x h)
-  unfolding after alonesAfter
-  reached-after x h hosted = reached-run laws x (openedBy x) noneYet (reached-opened laws x) h hosted
+pub reached-after : (x : Start) (h : List Event) → Hosted (openedBy x) h → Reached x (after x h) (alonesAfter x h)
+unfolding after alonesAfter
+reached-after x h hosted = reached-run x (openedBy x) noneYet (reached-opened x) h hosted
 
-  pub projection : Projection
-  unfolding Projection
-  projection x h hosted = (k .projected, step)
-    where
-      k : Reached x (after x h) (alonesAfter x h)
-      k = reached-after x h hosted
+pub projection : Projection
+unfolding Projection
+projection x h hosted = (k .projected, step)
+  where
+    k : Reached x (after x h) (alonesAfter x h)
+    k = reached-after x h hosted
 
-      step : (e : Event) (t : ℕ) (i : Input) → HostMay (after x h) (e .leaves) → brought t (e .made) ≡ some i → StepsAlone x (after x h) (alonesAfter x h) (alonesAfter x (h ++ (e ∷ []))) e t i
-      step e t i m bt = subst (λ (a′ : Alones). StepsAlone x (after x h) (alonesAfter x h) a′ e t i) (sym (one-more x h e)) (steps-alone laws x (after x h) (alonesAfter x h) k e m t i bt)
+    step : (e : Event) (t : ℕ) (i : Input) → HostMay (after x h) (e .leaves) → brought t (e .made) ≡ some i → StepsAlone x (after x h) (alonesAfter x h) (alonesAfter x (h ++ (e ∷ []))) e t i
+    step e t i m bt = subst (λ (a′ : Alones). StepsAlone x (after x h) (alonesAfter x h) a′ e t i) (sym (one-more x h e)) (steps-alone x (after x h) (alonesAfter x h) k e m t i bt)

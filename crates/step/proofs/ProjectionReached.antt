@@ -14,11 +14,14 @@ use Rattle.model.specs.Memory.{planIn}
 use Rattle.step.specs.Questions.{regionAt}
 use Rattle.step.specs.Step.{rowAt, isLive}
 use Rattle.step.specs.Sound.{Sound}
-use Rattle.step.specs.Laws.{Made, Made.calls, Made.looks, Event, leave, done, next, replyTo, run, StepLaws}
+use Rattle.step.specs.Laws.{Made, Made.calls, Made.looks, Event, leave, done, next, replyTo, run}
 use Rattle.step.specs.Lists.{HostMay, Hosted}
 use Rattle.step.specs.Alone.{Alones, noneYet, aloneNext, alones}
 use Rattle.step.specs.Demand3.{Start, plansOf, openedBy, Projected}
 use Rattle.step.proofs.Counts.{all-alike}
+use Rattle.step.proofs.Opened.{opened-sound}
+use Rattle.step.proofs.Histories.{leaves, keeps-next}
+use Rattle.step.proofs.Laws.{keeps}
 use Rattle.step.proofs.AloneTags.{clash, freed-dead}
 use Rattle.step.proofs.ProjectionFixed.{Fixed, fixed-opened, fixed-kept, fixed-left, done-kept}
 use Rattle.step.proofs.ProjectionRows.{projected-left}
@@ -56,11 +59,11 @@ projected-opened x = record {
   count = unfold openedBy opened in refl;
 }
 
-module _ (laws : StepLaws) (x : Start) where
+module _ (x : Start) where
   pub reached-opened : Reached x (openedBy x) noneYet
   unfolding openedBy plansOf
   reached-opened = record {
-    sound = laws .opening (x .opening) (x .plan) (x .lengths) (x .pool) (x .admitted) (x .whole);
+    sound = opened-sound (x .opening) (x .plan) (x .lengths) (x .pool) (x .admitted) (x .whole);
     fixed = fixed-opened x;
     projected = projected-opened x;
   }
@@ -69,15 +72,10 @@ module _ (laws : StepLaws) (x : Start) where
 
   pub reached-left : (s : State) (a : Alones) → Reached x s a → (pool : List ℕ) → HostMay s pool → Reached x (leave s pool) a
   reached-left s a k pool m = record {
-    sound = laws .leaves s pool (k .sound) (m .count);
+    sound = leaves s pool (k .sound) (m .count);
     fixed = fixed-left x s pool (k .fixed);
     projected = projected-left s (k .sound) a (k .projected) pool m;
   }
-
-  sound-done : (s : State) → Sound s → (l : Lengths) (m : Made) → Sound (done s l m .0)
-  unfolding done
-  sound-done s i l (calls c) = laws .keeps s l c i
-  sound-done s i l (looks y) = i
 
   pub reached-next : (s : State) (a : Alones) → Reached x s a → (e : Event) → HostMay s (e .leaves) → Reached x (next s e) (nextAlone x s a e)
   unfolding next replyTo aloneNext leave
@@ -85,7 +83,7 @@ module _ (laws : StepLaws) (x : Start) where
       let z = reached-left s a k (e .leaves) m in
       let s′ = leave s (e .leaves) in
       record {
-        sound = sound-done s′ (z .sound) (e .lengths) (e .made);
+        sound = keeps-next keeps s e (k .sound) (m .count);
         fixed = fixed-kept x s′ (done s′ (e .lengths) (e .made) .0) (done-kept s′ (e .lengths) (e .made)) (z .fixed);
         projected = projected-done x s′ (z .sound) (z .fixed) a (z .projected) (e .lengths) (e .made);
       }

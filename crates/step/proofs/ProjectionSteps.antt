@@ -15,7 +15,7 @@ use Rattle.model.specs.declared.Row.{Row}
 use Rattle.model.specs.State.{State, freed}
 use Rattle.step.specs.Rules.{Input, Fate, Fate.away, Fate.awaits, Fate.ends, Fate.rejected}
 use Rattle.step.specs.Step.{rowAt, rowOf, raised, names, bytesAt, completionOf, going, freeing, settled, fateOf, underTag, eqLengths}
-use Rattle.step.specs.Laws.{Event, leave, done, next, replyTo, StepLaws}
+use Rattle.step.specs.Laws.{Event, leave, done, next, replyTo}
 use Rattle.step.specs.Lists.{brought, isAway, Completed, HostMay}
 use Rattle.step.specs.Alone.{Course, Course.isOpen, Course.completed, Course.wasRefused, Alones, onward, aloneFate, feeds, heard, aloneNext}
 use Rattle.step.specs.Demand3.{Start, plansOf, StepsAlone}
@@ -71,7 +71,7 @@ completes-bytes x s a k t named own (rejected f b bytes) z c e = clash (cc)
 
 -- ---- one event
 
-module _ (laws : StepLaws) (x : Start) (s : State) (a : Alones) (k : Reached x s a) (e : Event) (w : HostMay s (e .leaves)) (t : ℕ) (i : Input) (bt : brought t (e .made) ≡ some i) where
+module _ (x : Start) (s : State) (a : Alones) (k : Reached x s a) (e : Event) (w : HostMay s (e .leaves)) (t : ℕ) (i : Input) (bt : brought t (e .made) ≡ some i) where
   abbrev s₁ : State
   s₁ = leave s (e .leaves)
 
@@ -82,7 +82,7 @@ module _ (laws : StepLaws) (x : Start) (s : State) (a : Alones) (k : Reached x s
   sameLengths = eqLengths (e .lengths) (x .lengths)
 
   k₁ : Reached x s₁ a
-  k₁ = reached-left laws x s a k (e .leaves) w
+  k₁ = reached-left x s a k (e .leaves) w
 
   br : Brings (e .made) t i
   br = brings (e .made) t i bt

@@ -19,7 +19,7 @@ use Rattle.model.specs.Opening.{Plan}
 use Rattle.step.specs.Questions.{regionAt}
 use Rattle.step.specs.Rules.{Fate.awaits}
 use Rattle.step.specs.Step.{rowAt, rowOf, raised, isLive, planOf, awaitsNow, completionOf, asksFor, going, freeing, settled, taken}
-use Rattle.step.specs.Laws.{Made, Event, leave, done, next, replyTo, run, StepLaws}
+use Rattle.step.specs.Laws.{Made, Event, leave, done, next, replyTo, run}
 use Rattle.step.specs.Lists.{tookBy, addedBy, added, takings}
 use Rattle.step.specs.Alone.{Alones}
 use Rattle.step.specs.Demand3.{Start, Fits, AllDone}
@@ -91,21 +91,21 @@ module _ (s : State) (l : Lengths) (m : Made) where
 
 -- ---- a list
 
-module _ (laws : StepLaws) (x : Start) where
+module _ (x : Start) where
   pub count-all : (s : State) (a : Alones) → Reached x s a → (l : List Event) → Fits s l → liveRows (s .rows) ≡ length (added s l) + liveRows (run s l .rows)
   unfolding added addedBy run next leave
   count-all s a k [] f = omega arith
   count-all s a k (e ∷ es) f =
-      let one = counted (leave s (e .leaves)) (e .lengths) (e .made) (came-next laws x s a k e es f) in
-      let rest = count-all (next s e) (nextAlone x s a e) (reached laws x s a k e es f) es (behind laws x s a k e es f) in
+      let one = counted (leave s (e .leaves)) (e .lengths) (e .made) (came-next x s a k e es f) in
+      let rest = count-all (next s e) (nextAlone x s a e) (reached x s a k e es f) es (behind x s a k e es f) in
       omega (arith, one, rest, length-append (addedBy s e) (added (next s e) es))
 
   pub queue-all : (s : State) (a : Alones) → Reached x s a → (l : List Event) → Fits s l → s .ready ++ added s l ≡ takings s l ++ run s l .ready
   unfolding added addedBy takings run next replyTo leave
   queue-all s a k [] f = append-nil (s .ready)
   queue-all s a k (e ∷ es) f =
-      let one = queued (leave s (e .leaves)) (e .lengths) (e .made) (came-next laws x s a k e es f) in
-      let rest = queue-all (next s e) (nextAlone x s a e) (reached laws x s a k e es f) es (behind laws x s a k e es f) in
+      let one = queued (leave s (e .leaves)) (e .lengths) (e .made) (came-next x s a k e es f) in
+      let rest = queue-all (next s e) (nextAlone x s a e) (reached x s a k e es f) es (behind x s a k e es f) in
       let took = tookBy (replyTo s e) in
       sym (append-assoc (s .ready) (addedBy s e) (added (next s e) es))
       ∙ ap (λ (z : List Completion). z ++ added (next s e) es) one

@@ -28,7 +28,7 @@ use Rattle.model.specs.Memory.{planIn}
 use Rattle.step.specs.Questions.{regionAt}
 use Rattle.step.specs.Rules.{Input, Fate, Fate.away, Fate.awaits, Fate.ends, Fate.rejected, rules}
 use Rattle.step.specs.Step.{rowAt, rowOf, bytesAt, planOf, asksFor, rejection, settled, eqLengths}
-use Rattle.step.specs.Laws.{Made, Made.calls, Made.looks, Event, leave, replyTo, StepLaws}
+use Rattle.step.specs.Laws.{Made, Made.calls, Made.looks, Event, leave, replyTo}
 use Rattle.step.specs.Lists.{broughtBy, brought, isAway, loose, planAt, leftIn, Given, givenAs, givenBy, HostMay}
 use Rattle.step.specs.Alone.{Course, Course.isOpen, Course.completed, Course.wasRefused, Alones, withLeft, onward, aloneFate, feeds, heardCall, heard, aloneNext}
 use Rattle.step.specs.Demand3.{Start, plansOf, listedCall, isListed}
@@ -148,7 +148,7 @@ module _ (x : Start) (s : State) (a : Alones) (e : Event) (l : isListed (e .made
 
 -- ---- one event
 
-module _ (laws : StepLaws) (x : Start) (s : State) (a : Alones) (k : Reached x s a) (e : Event) (w : HostMay s (e .leaves)) (l : isListed (e .made) ≡ true) (t : ℕ) where
+module _ (x : Start) (s : State) (a : Alones) (k : Reached x s a) (e : Event) (w : HostMay s (e .leaves)) (l : isListed (e .made) ≡ true) (t : ℕ) where
   abbrev s₁ : State
   s₁ = leave s (e .leaves)
 
@@ -161,7 +161,7 @@ module _ (laws : StepLaws) (x : Start) (s : State) (a : Alones) (k : Reached x s
 
   module _ (i : Input) (bt : brought t (e .made) ≡ some i) where
     k₁ : Reached x s₁ a
-    k₁ = reached-left laws x s a k (e .leaves) w
+    k₁ = reached-left x s a k (e .leaves) w
 
     -- none is open under the tag
     pub shut : (c : Course) → ((r : Row) (bytes : List ℕ) → c ≡ isOpen r bytes → ⊥) → a .ops t ≡ some c → nextAlone x s a e .ops t ≡ some c
@@ -170,15 +170,15 @@ module _ (laws : StepLaws) (x : Start) (s : State) (a : Alones) (k : Reached x s
       where
         by-lengths : (eqLengths (e .lengths) (x .lengths) ≡ true) ⊎ (eqLengths (e .lengths) (x .lengths) ≡ false) → nextAlone x s a e .ops t ≡ some c
         by-lengths (inl q) =
-            ap (λ (y : Alones). y .ops t) (alone-to laws x s a k e w t i bt true q ∙ feeds-none x a (e .leaves) t i (a .ops t) (λ r bytes z. n r bytes (let y = sym op ∙ z in cc))) ∙ op
-        by-lengths (inr q) = ap (λ (y : Alones). y .ops t) (alone-to laws x s a k e w t i bt false q) ∙ op
+            ap (λ (y : Alones). y .ops t) (alone-to x s a k e w t i bt true q ∙ feeds-none x a (e .leaves) t i (a .ops t) (λ r bytes z. n r bytes (let y = sym op ∙ z in cc))) ∙ op
+        by-lengths (inr q) = ap (λ (y : Alones). y .ops t) (alone-to x s a k e w t i bt false q) ∙ op
 
     module _ (r : Row) (bytes : List ℕ) (op : a .ops t ≡ some (isOpen r bytes)) where
       abbrev g : Plan
       g = getD (plansOf x) (r .handle) (planIn [])
 
       abbrev f : Fate
-      f = fate laws x s a k e w t i bt r bytes op
+      f = fate x s a k e w t i bt r bytes op
 
       abbrev same : Bool
       same = eqLengths (e .lengths) (x .lengths)
@@ -190,15 +190,15 @@ module _ (laws : StepLaws) (x : Start) (s : State) (a : Alones) (k : Reached x s
         where
           by-lengths : (same ≡ true) ⊎ (same ≡ false) → nextAlone x s a e .ops t ≡ some (isOpen r bytes)
           by-lengths (inl q) =
-              course-is laws x s a k e w t i bt r bytes op q
-              ∙ ap some (settled-away s₁ t r bytes (bytesAt s₁ (r .buffer)) f (told-is laws x s a k e w t i bt r bytes op) (ap (λ (y : State × Reply). isAway (y .1)) (sym (met-is laws x s a k e w t i bt r bytes op q)) ∙ gone))
-          by-lengths (inr q) = course-other laws x s a k e w t i bt r bytes op q
+              course-is x s a k e w t i bt r bytes op q
+              ∙ ap some (settled-away s₁ t r bytes (bytesAt s₁ (r .buffer)) f (told-is x s a k e w t i bt r bytes op) (ap (λ (y : State × Reply). isAway (y .1)) (sym (met-is x s a k e w t i bt r bytes op q)) ∙ gone))
+          by-lengths (inr q) = course-other x s a k e w t i bt r bytes op q
 
       -- what is left in the piece is all that is read of the pool
       left-is : left ≡ take (loose g (r .awaits)) (stretch (x .opening .capacity) (r .buffer) (e .leaves))
       unfolding leftIn planAt bytesAt leave
       left-is =
-          ap (leftIn s₁) (row-is laws x s a k e w t i bt r bytes op)
+          ap (leftIn s₁) (row-is x s a k e w t i bt r bytes op)
           ∙ (λ j. take (loose (k₁ .fixed .plans (r .handle) j) (r .awaits)) (stretch (k .fixed .settings j .capacity) (r .buffer) (e .leaves)))
 
       -- and not
@@ -211,8 +211,8 @@ module _ (laws : StepLaws) (x : Start) (s : State) (a : Alones) (k : Reached x s
 
           by-lengths : (same ≡ true) ⊎ (same ≡ false) → nextAlone x s a e .ops t ≡ some (fedBy x (a .forced) (a .first) (isOpen r bytes) (i, left))
           by-lengths (inl q) =
-              course-is laws x s a k e w t i bt r bytes op q ∙ ap (λ (y : List ℕ). some (onward r bytes (rules (x .opening) g (a .forced (r .handle)) (a .first) r y i))) read
-          by-lengths (inr q) = absurd (not-both (other-length laws x s a k e w t i bt q .0) taken)
+              course-is x s a k e w t i bt r bytes op q ∙ ap (λ (y : List ℕ). some (onward r bytes (rules (x .opening) g (a .forced (r .handle)) (a .first) r y i))) read
+          by-lengths (inr q) = absurd (not-both (other-length x s a k e w t i bt q .0) taken)
 
     brought-course : (c : Course) → a .ops t ≡ some c → Comes c (pick (isAway (replyTo s e)) [] ((i, left) ∷ []))
     unfolding courseBy fedBy pick

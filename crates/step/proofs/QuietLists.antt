@@ -16,7 +16,7 @@ use Rattle.model.specs.declared.Row.{Row}
 use Rattle.model.specs.State.{State}
 use Rattle.step.specs.Rules.{Input, Fate, Fate.away, Fate.awaits, Fate.ends, Fate.rejected}
 use Rattle.step.specs.Step.{rowAt, rowOf, bytesAt, awaitsNow, settled, eqLengths}
-use Rattle.step.specs.Laws.{Event, leave, done, next, StepLaws}
+use Rattle.step.specs.Laws.{Event, leave, done, next}
 use Rattle.step.specs.Lists.{brought, isAway, HostMay, isBrought, Given, givenBy, given, Completed, withBytes, addedBy, gets}
 use Rattle.step.specs.Alone.{Course, Course.isOpen, Course.completed, Course.wasRefused, Alones, onward, alones}
 use Rattle.step.specs.Demand3.{Start, FairTo, Fits, StepsAlone}
@@ -68,7 +68,7 @@ adds s e b = withBytes (bytesAt (next s e) b) (addedBy s e)
 
 -- ---- one event
 
-module _ (laws : StepLaws) (x : Start) (s : State) (a : Alones) (k : Reached x s a) (e : Event) (es : List Event) (f : Fits s (e ∷ es)) where
+module _ (x : Start) (s : State) (a : Alones) (k : Reached x s a) (e : Event) (es : List Event) (f : Fits s (e ∷ es)) where
   abbrev s₁ : State
   s₁ = leave s (e .leaves)
 
@@ -76,13 +76,13 @@ module _ (laws : StepLaws) (x : Start) (s : State) (a : Alones) (k : Reached x s
   pub next-first : nextAlone x s a e .first ≡ a .first
   unfolding next leave
   next-first =
-      reached laws x s a k e es f .projected .first
-      ∙ same-poison s₁ (e .lengths) (e .made) (came-next laws x s a k e es f)
+      reached x s a k e es f .projected .first
+      ∙ same-poison s₁ (e .lengths) (e .made) (came-next x s a k e es f)
       ∙ sym (k .projected .first)
 
   module _ (t : ℕ) (i : Input) (bt : brought t (e .made) ≡ some i) where
     w : HostMay s (e .leaves)
-    w = host-may laws x s a k e es f
+    w = host-may x s a k e es f
 
     br : Brings (e .made) t i
     br = brings (e .made) t i bt
@@ -90,25 +90,25 @@ module _ (laws : StepLaws) (x : Start) (s : State) (a : Alones) (k : Reached x s
     fair : isAway (done s₁ (e .lengths) (e .made) .1) ≡ false → FairTo s₁ (rowAt s₁ (rowOf t)) (rowAt s₁ (rowOf t) .awaits) i
     fair h =
         subst (λ (u : ℕ). FairTo s₁ (rowAt s₁ (rowOf u)) (rowAt s₁ (rowOf u) .awaits) i) (br .tag)
-        (fair-next laws x s a k e es f i (ap (λ (u : ℕ). brought u (e .made)) (br .tag) ∙ bt) h)
+        (fair-next x s a k e es f i (ap (λ (u : ℕ). brought u (e .made)) (br .tag) ∙ bt) h)
 
     -- an open operation is not refused
     module _ (r : Row) (bytes : List ℕ) (op : a .ops t ≡ some (isOpen r bytes)) where
-      by-fate : eqLengths (e .lengths) (x .lengths) ≡ true → (g : Fate) → fate laws x s a k e w t i bt r bytes op ≡ g → onward r bytes g ≡ wasRefused → ⊥
+      by-fate : eqLengths (e .lengths) (x .lengths) ≡ true → (g : Fate) → fate x s a k e w t i bt r bytes op ≡ g → onward r bytes g ≡ wasRefused → ⊥
       unfolding onward rowAt leave
       by-fate q (away u) z c = clash (cc)
       by-fate q (awaits v bs) z c = clash (cc)
       by-fate q (ends o b bs cause) z c = clash (cc)
       by-fate q (rejected u b bs) z c =
-          not-rejected s₁ (reached-left laws x s a k (e .leaves) w .sound) (e .lengths) (e .made) t i br (named laws x s a k e w t i bt r bytes op) fair u b bs (fate-is laws x s a k e w t i bt r bytes op ∙ z)
-          (met-is laws x s a k e w t i bt r bytes op q ∙ (λ j. settled s₁ t (sym (row-is laws x s a k e w t i bt r bytes op) j) (z j)))
+          not-rejected s₁ (reached-left x s a k (e .leaves) w .sound) (e .lengths) (e .made) t i br (named x s a k e w t i bt r bytes op) fair u b bs (fate-is x s a k e w t i bt r bytes op ∙ z)
+          (met-is x s a k e w t i bt r bytes op q ∙ (λ j. settled s₁ t (sym (row-is x s a k e w t i bt r bytes op) j) (z j)))
 
       not-refused : nextAlone x s a e .ops t ≡ some wasRefused → ⊥
       not-refused c = by-lengths (true-or-false (eqLengths (e .lengths) (x .lengths)))
         where
           by-lengths : (eqLengths (e .lengths) (x .lengths) ≡ true) ⊎ (eqLengths (e .lengths) (x .lengths) ≡ false) → ⊥
-          by-lengths (inl q) = by-fate q (fate laws x s a k e w t i bt r bytes op) refl (let z = sym (course-is laws x s a k e w t i bt r bytes op q) ∙ c in cc)
-          by-lengths (inr q) = clash (let z = sym (course-other laws x s a k e w t i bt r bytes op q) ∙ c in cc)
+          by-lengths (inl q) = by-fate q (fate x s a k e w t i bt r bytes op) refl (let z = sym (course-is x s a k e w t i bt r bytes op q) ∙ c in cc)
+          by-lengths (inr q) = clash (let z = sym (course-other x s a k e w t i bt r bytes op q) ∙ c in cc)
 
     -- ---- what it gets
 
@@ -117,7 +117,7 @@ module _ (laws : StepLaws) (x : Start) (s : State) (a : Alones) (k : Reached x s
     adds-none b q = ap (λ (cs : List Completion). withBytes (bytesAt (next s e) b) (drop (length (s .ready)) cs)) q ∙ ap (withBytes (bytesAt (next s e) b)) (drop-length (s .ready))
 
     abbrev st : StepsAlone x s a (nextAlone x s a e) e t i
-    st = steps-alone laws x s a k e w t i bt
+    st = steps-alone x s a k e w t i bt
 
     -- an open one: by how far it comes
     adds-open : (r : Row) (bytes : List ℕ) (b : ℕ) → a .ops t ≡ some (isOpen r bytes) → r .buffer ≡ b → (c : Course) → nextAlone x s a e .ops t ≡ some c → adds s e b ≡ doneOf c
@@ -139,15 +139,15 @@ module _ (laws : StepLaws) (x : Start) (s : State) (a : Alones) (k : Reached x s
     unfolding doneOf InBuffer
     adds-more (isOpen r bytes) op b buf c′ q = adds-open r bytes b op buf c′ q
     adds-more (completed c) op b buf c′ q =
-        let same : completed c ≡ c′ = let z = sym (shut laws x s a k e w (listed laws x s a k e es f) t i bt (completed c) (λ r bytes z. clash (cc)) op) ∙ q in cc in
+        let same : completed c ≡ c′ = let z = sym (shut x s a k e w (listed x s a k e es f) t i bt (completed c) (λ r bytes z. clash (cc)) op) ∙ q in cc in
         ap (λ (cs : List Completed). c ∷ cs) (adds-shut (completed c) op (λ r bytes z. clash (cc)) b) ∙ ap doneOf same
     adds-more wasRefused op b buf c′ q =
-        let same : wasRefused ≡ c′ = let z = sym (shut laws x s a k e w (listed laws x s a k e es f) t i bt wasRefused (λ r bytes z. clash (cc)) op) ∙ q in cc in
+        let same : wasRefused ≡ c′ = let z = sym (shut x s a k e w (listed x s a k e es f) t i bt wasRefused (λ r bytes z. clash (cc)) op) ∙ q in cc in
         adds-shut wasRefused op (λ r bytes z. clash (cc)) b ∙ ap doneOf same
 
     kept-on : (c : Course) → a .ops t ≡ some c → c ≢ wasRefused → nextAlone x s a e .ops t ≢ some wasRefused
     kept-on (isOpen r bytes) op n q = not-refused r bytes op q
-    kept-on (completed c) op n q = clash (let z = sym (shut laws x s a k e w (listed laws x s a k e es f) t i bt (completed c) (λ r bytes z. clash (cc)) op) ∙ q in cc)
+    kept-on (completed c) op n q = clash (let z = sym (shut x s a k e w (listed x s a k e es f) t i bt (completed c) (λ r bytes z. clash (cc)) op) ∙ q in cc)
     kept-on wasRefused op n q = absurd (n refl)
 
   -- whatever the event brings
@@ -157,14 +157,14 @@ module _ (laws : StepLaws) (x : Start) (s : State) (a : Alones) (k : Reached x s
     gets-next b buf c′ q = by-brought (brought t (e .made)) refl
       where
         by-brought : (y : Option Input) → brought t (e .made) ≡ y → doneOf c ++ pick (isBrought y) (adds s e b) [] ≡ doneOf c′
-        by-brought none z = append-nil (doneOf c) ∙ ap doneOf (let same = sym op ∙ sym (next-other x s a e (listed laws x s a k e es f) t z) ∙ q in cc)
+        by-brought none z = append-nil (doneOf c) ∙ ap doneOf (let same = sym op ∙ sym (next-other x s a e (listed x s a k e es f) t z) ∙ q in cc)
         by-brought (some i) z = adds-more t i z c op b buf c′ q
 
     kept-next : c ≢ wasRefused → nextAlone x s a e .ops t ≢ some wasRefused
     kept-next n q = by-brought (brought t (e .made)) refl
       where
         by-brought : (y : Option Input) → brought t (e .made) ≡ y → ⊥
-        by-brought none z = n (let same = sym op ∙ sym (next-other x s a e (listed laws x s a k e es f) t z) ∙ q in cc)
+        by-brought none z = n (let same = sym op ∙ sym (next-other x s a e (listed x s a k e es f) t z) ∙ q in cc)
         by-brought (some i) z = kept-on t i z c op n q
 
 -- ---- a list
@@ -174,25 +174,25 @@ pub record Through (x : Start) (forced : ℕ → Bool) (first : Poisoned) (s : S
   pub got : doneOf c ++ gets s l t b ≡ doneOf (courseBy x forced first c (given s l t))
   pub kept : courseBy x forced first c (given s l t) ≢ wasRefused
 
-pub through : (laws : StepLaws) (x : Start) (forced : ℕ → Bool) (first : Poisoned) (t b : ℕ) (l : List Event) (s : State) (a : Alones) → Reached x s a → Fits s l → a .forced ≡ forced → a .first ≡ first
+pub through : (x : Start) (forced : ℕ → Bool) (first : Poisoned) (t b : ℕ) (l : List Event) (s : State) (a : Alones) → Reached x s a → Fits s l → a .forced ≡ forced → a .first ≡ first
     → (c : Course) → a .ops t ≡ some c → InBuffer b c → c ≢ wasRefused → Through x forced first s a l t b c
 unfolding given gets alones courseBy
-through laws x forced first t b [] s a k f fo fi c op buf n = record { course = op; got = append-nil (doneOf c); kept = n }
-through laws x forced first t b (e ∷ es) s a k f fo fi c op buf n =
-    let w = host-may laws x s a k e es f in
-    let li = listed laws x s a k e es f in
+through x forced first t b [] s a k f fo fi c op buf n = record { course = op; got = append-nil (doneOf c); kept = n }
+through x forced first t b (e ∷ es) s a k f fo fi c op buf n =
+    let w = host-may x s a k e es f in
+    let li = listed x s a k e es f in
     let vs = givenBy s e t in
     let c′ = courseBy x forced first c vs in
-    let op′ : nextAlone x s a e .ops t ≡ some c′ = course-next laws x s a k e w li t c op ∙ (λ j. some (courseBy x (fo j) (fi j) c vs)) in
+    let op′ : nextAlone x s a e .ops t ≡ some c′ = course-next x s a k e w li t c op ∙ (λ j. some (courseBy x (fo j) (fi j) c vs)) in
     let z =
-    through laws x forced first t b es (next s e) (nextAlone x s a e) (reached laws x s a k e es f) (behind laws x s a k e es f) (next-forced x s a e li ∙ fo) (next-first laws x s a k e es f ∙ fi) c′ op′
-    (course-buffer x forced first b c vs buf) (λ q. kept-next laws x s a k e es f t c op n (op′ ∙ ap some q)) in
+    through x forced first t b es (next s e) (nextAlone x s a e) (reached x s a k e es f) (behind x s a k e es f) (next-forced x s a e li ∙ fo) (next-first x s a k e es f ∙ fi) c′ op′
+    (course-buffer x forced first b c vs buf) (λ q. kept-next x s a k e es f t c op n (op′ ∙ ap some q)) in
     let both = course-append x forced first c vs (given (next s e) es t) in
     record {
       course = z .course ∙ ap some (sym both);
       got =
           sym (append-assoc (doneOf c) (pick (isBrought (brought t (e .made))) (adds s e b) []) (gets (next s e) es t b))
-          ∙ ap (λ (cs : List Completed). cs ++ gets (next s e) es t b) (gets-next laws x s a k e es f t c op b buf c′ op′)
+          ∙ ap (λ (cs : List Completed). cs ++ gets (next s e) es t b) (gets-next x s a k e es f t c op b buf c′ op′)
           ∙ z .got ∙ ap doneOf (sym both);
       kept = λ q. z .kept (sym both ∙ q);
     }
