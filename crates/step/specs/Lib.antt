@@ -6,4 +6,5 @@ pub mod Laws
 pub mod Lists
 pub mod Alone
 pub mod Demand3
+pub mod Demand2
 pub mod Figures
