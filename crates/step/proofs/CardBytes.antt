@@ -26,7 +26,7 @@ use Rattle.step.specs.Questions.{regionAt}
 use Rattle.step.specs.Rules.{Input, firstOf, pieceOf, pieceLength}
 use Rattle.step.specs.Step.{rowAt, isLive, planOf}
 use Rattle.step.specs.Sound.{rangeStart, rangeEnd, SplitFits, InTable, Sound}
-use Rattle.step.specs.Lists.{loose, planAt, isPiece, wroteBy}
+use Rattle.step.specs.Lists.{loose, planAt, takesWhole, wroteBy}
 use Rattle.step.specs.Demand3.{Mapped, isWrite}
 use Rattle.step.proofs.ProjectionHost.{live-in-table}
 
@@ -36,7 +36,7 @@ use Rattle.step.proofs.ProjectionHost.{live-in-table}
 pub wrote-byte : (g : Plan) (a : Awaits) (bytes : List ℕ) (i : Option Input) (card : Card) (y : ℕ) → wroteBy g a bytes i card y ≡ wroteBy g a bytes i (λ z. card y) y
 unfolding wroteBy pwrite pick
 wrote-byte g Nothing bytes i card y = refl
-wrote-byte g (Piece (Page a b) s) bytes i card y = by-test (isPiece (pieceLength g (Page a b) s) i)
+wrote-byte g (Piece (Page a b) s) bytes i card y = by-test (takesWhole (pieceLength g (Page a b) s) i)
   where
     by-test : (t : Bool)
         → pick t (pwrite card (place (g .map) (a .0 + s .done)) (take (pieceLength g (Page a b) s) bytes)) card y
@@ -51,13 +51,13 @@ pub wrote-alike : (g : Plan) (a : Awaits) (bytes bytes′ : List ℕ) (i : Optio
 unfolding wroteBy loose
 wrote-alike g Nothing bytes bytes′ i card e = refl
 wrote-alike g (Piece (Page a b) s) bytes bytes′ i card e =
-    ap (λ (bs : List ℕ). pick (isPiece (pieceLength g (Page a b) s) i) (pwrite card (place (g .map) (a .0 + s .done)) (take (pieceLength g (Page a b) s) bs)) card) e
+    ap (λ (bs : List ℕ). pick (takesWhole (pieceLength g (Page a b) s) i) (pwrite card (place (g .map) (a .0 + s .done)) (take (pieceLength g (Page a b) s) bs)) card) e
 wrote-alike g (Piece (Read a b) s) bytes bytes′ i card e = refl
 wrote-alike g (Flush t) bytes bytes′ i card e = refl
 
 -- of an answer
 pub wrote-none : (g : Plan) (a : Awaits) (bytes : List ℕ) (card : Card) → wroteBy g a bytes none card ≡ card
-unfolding wroteBy isPiece pick
+unfolding wroteBy takesWhole pick
 wrote-none g Nothing bytes card = refl
 wrote-none g (Piece (Page a b) s) bytes card = refl
 wrote-none g (Piece (Read a b) s) bytes card = refl
@@ -110,7 +110,7 @@ wrote-away s sound k bytes i card y n = by-awaits (rowAt s k .awaits) refl
 
     by-awaits : (w : Awaits) → rowAt s k .awaits ≡ w → wroteBy g w bytes i card y ≡ card y
     by-awaits Nothing e = refl
-    by-awaits (Piece (Page a b) sp) e = by-test (isPiece (pieceLength g (Page a b) sp) i)
+    by-awaits (Piece (Page a b) sp) e = by-test (takesWhole (pieceLength g (Page a b) sp) i)
       where
         unmapped : Mapped s (rowAt s k) y → ⊥
         unmapped = n (unfold isWrite in ap isWrite e)

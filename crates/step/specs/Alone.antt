@@ -3,7 +3,7 @@
 -- write that, run alone, was ended DurabilityUnknown by a piece's answer and not by a flush result. Those that get 13 to 16 change nothing."
 -- Nothing is read off the table but an acceptance: its reply with the queue tag. 13 follows from the lengths lent, 14 from what was accepted under the tag, and
 -- 15 and 16 are judged here, by the rules.
-use mathlib.Core.Bool.{Bool, true, false}
+use mathlib.Core.Bool.{Bool, false}
 use mathlib.Core.Option.{Option, none, some}
 use mathlib.Core.List.{List, [], _∷_, _++_}
 use Prim.Native.Nat.{ℕ, _+_}
@@ -15,7 +15,6 @@ use Rattle.domain.specs.declared.FirstCause.{FirstCause}
 use Rattle.domain.specs.declared.Poisoned.{Poisoned}
 use Rattle.domain.specs.declared.Poisoned.the-variants.{Never}
 use Rattle.domain.specs.Domain.{firstKept}
-use Rattle.completion.specs.declared.Completion.{Completion}
 use Rattle.completion.specs.declared.Reply.{Reply}
 use Rattle.completion.specs.declared.Reply.the-variants.{Piece as piece, No as turnedAway, Rejected, Done, Flush as flushAsked, Took, None as noneReady, Ok, Writes, Mark}
 use Rattle.model.specs.declared.Opening.{Opening}
@@ -27,7 +26,7 @@ use Rattle.model.specs.declared.Request.{Request}
 use Rattle.model.specs.declared.Call.{Call}
 use Rattle.model.specs.declared.Call.the-variants.{Write, ReadPage, Answer as answer, Flushed as flushResult, Take, SetGate, SetReadOnly, SetForced, ReportPoison}
 use Rattle.model.specs.State.{State}
-use Rattle.model.specs.Opening.{Plan, opened}
+use Rattle.model.specs.Opening.{Plan}
 use Rattle.model.specs.Memory.{planIn}
 use Rattle.step.specs.Rules.{Input, Input.answered, Input.flushed, Fate, Fate.away, Fate.awaits, Fate.ends, Fate.rejected, rules}
 use Rattle.step.specs.Step.{startOf, endOf, claimedBy, generationOf, awaitsNow, completionOf, poisonWith, eqLengths}

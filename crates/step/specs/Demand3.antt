@@ -2,22 +2,21 @@
 -- with another open operation, take any two lists of answers, flush results, takings and lookups, turned-away ones included, until all open operations are
 -- done. .. Then each operation open at first gets in both exactly one completion, and its buffer as completed, equal to those of document 01's operation
 -- alone; the set of free rows, the generations and the card's bytes, equal at first, agree; free plus live rows equal the depth after every call."
--- Beside it the projection, of any history: an operation in the table is the operation alone. Proved in proofs/Demand3.antt (demand3, projection).
+-- An answer under a live tag is taken to be for the piece that the row awaits: all pieces of an operation have one tag, and a tag is issued again after a refused
+-- first piece, so a second answer to an earlier piece or to an earlier use of the tag cannot be told apart (only a count above the piece is caught, 16).
+-- Beside it the projection, of any history: an operation in the table is the operation alone. Proved in proofs/ (Demand3: demand3; Projection: projection).
 use mathlib.Core.Path.{_≡_}
-use mathlib.Core.Logic.{_≢_, _⊎_}
+use mathlib.Core.Logic.{_≢_}
 use mathlib.Core.Bool.{Bool, true, false}
-use mathlib.Core.Option.{Option, none, some}
+use mathlib.Core.Option.{Option, some}
 use mathlib.Core.List.{List, [], _∷_, _++_}
 use Prim.Native.Nat.{ℕ, _+_, _<_}
-use lib.ListN.{length, take, drop, getD}
+use lib.ListN.{length, take, drop}
 use Rattle.regionmap.specs.Map.{place}
 use Rattle.posix.specs.Posix.{Card}
-use Rattle.platform.specs.declared.Answer.{Answer}
 use Rattle.model.specs.declared.Opening.{Opening}
 use Rattle.model.specs.declared.Lengths.{Lengths}
-use Rattle.model.specs.declared.Kind.{Kind}
 use Rattle.model.specs.declared.Kind.the-variants.{Page, Read}
-use Rattle.model.specs.declared.Split.{Split}
 use Rattle.model.specs.declared.Awaits.{Awaits}
 use Rattle.model.specs.declared.Awaits.the-variants.{Nothing, Piece, Flush}
 use Rattle.model.specs.declared.Row.{Row}

@@ -1,10 +1,10 @@
 -- What is proved of every step: an opening leaves a sound table, and every call and every write of the host to the pool keeps it sound; a call that is
--- turned away changes nothing, and one with other lengths gets 13; the questions have the paper's numbers, in its order; an operation's pieces, each
--- answered whole, are those of the map, and act like one transfer. Proved in proofs/Laws.antt (step-laws).
+-- turned away changes nothing, and one with other lengths gets 13; the questions have the paper's numbers, in its order; the pieces of the map for an accepted
+-- operation's range act like one transfer (Demand2 says it of the answers). Proved in proofs/Laws.antt (step-laws).
 use mathlib.Core.Path.{_≡_}
 use mathlib.Core.Bool.{Bool, true, false}
 use mathlib.Core.List.{List, [], _∷_, map}
-use Prim.Native.Nat.{ℕ, zero, suc, _+_, _≤_, _<_}
+use Prim.Native.Nat.{ℕ, zero, suc, _+_}
 use lib.ListN.{length}
 use lib.Dec.{ltb}
 use Rattle.layout.specs.Pick.{pick}
@@ -125,10 +125,9 @@ pub record StepLaws : Type 0 where
       → Sound (run (opened o (plansIn (o .regions) plan) l pool) es)
   -- a call that is turned away changes nothing
   pub turned-away : (s : State) (l : Lengths) (c : Call) (f : Refusal) → step s l c .1 ≡ turnedAway f → step s l c .0 ≡ s
-  -- a lookup with another length likewise
-  pub another-length-looked : (s : State) (l : Lengths) (x : Lookup) → eqLengths l (s .lengths) ≡ false → look s l x ≡ turnedAway Unfit
-  -- another length is asked before all else
+  -- another length is asked before all else, of a call and of a lookup
   pub another-length : (s : State) (l : Lengths) (c : Call) → eqLengths l (s .lengths) ≡ false → step s l c .1 ≡ turnedAway Unfit
+  pub another-length-looked : (s : State) (l : Lengths) (x : Lookup) → eqLengths l (s .lengths) ≡ false → look s l x ≡ turnedAway Unfit
   -- the questions have the paper's numbers, in its order
   pub write-numbers : (s : State) (g : Region) (q : Request) → SaysEach writeNumbers (writeQuestions s g q)
   pub read-numbers : (s : State) (g : Region) (q : Request) → SaysEach readNumbers (readQuestions s g q)

@@ -1,32 +1,29 @@
--- What a list of calls gives each operation, and what the operation gets: by its queue tag, from the events and the table's replies.
+-- What a list of calls gives each operation, and what the operation gets: by its queue tag, from the events, the table's replies, and what the table holds.
 use mathlib.Core.Path.{_≡_}
 use mathlib.Core.Logic.{_⊎_}
-use mathlib.Core.Bool.{Bool, true, false, not, _&&_}
+use mathlib.Core.Bool.{Bool, true, false}
 use mathlib.Core.Option.{Option, none, some}
 use mathlib.Core.List.{List, [], _∷_, _++_}
 use Prim.Native.Nat.{ℕ, _+_, _<_}
-use lib.ListN.{length, take, drop, getD}
+use lib.ListN.{length, take, drop}
 use lib.Dec.{eqb}
 use Rattle.layout.specs.Pick.{pick}
 use Rattle.regionmap.specs.Map.{place}
 use Rattle.iobuf.specs.Turn.{stretch}
 use Rattle.posix.specs.Posix.{Card, pwrite}
-use Rattle.platform.specs.declared.Answer.{Answer}
 use Rattle.completion.specs.declared.Completion.{Completion}
 use Rattle.completion.specs.declared.Reply.{Reply}
 use Rattle.completion.specs.declared.Reply.the-variants.{Piece as piece, No as turnedAway, Rejected, Done, Flush as flushAsked, Took, None as noneReady, Ok, Writes, Mark}
-use Rattle.model.specs.declared.Kind.{Kind}
 use Rattle.model.specs.declared.Kind.the-variants.{Page, Read}
-use Rattle.model.specs.declared.Split.{Split}
 use Rattle.model.specs.declared.Awaits.{Awaits}
 use Rattle.model.specs.declared.Awaits.the-variants.{Nothing, Piece, Flush}
 use Rattle.model.specs.declared.Row.{Row}
 use Rattle.model.specs.declared.Call.{Call}
 use Rattle.model.specs.declared.Call.the-variants.{Write, ReadPage, Answer as answer, Flushed as flushResult, Take, SetGate, SetReadOnly, SetForced, ReportPoison}
-use Rattle.model.specs.State.{Owner.host, Owner.lost, State}
+use Rattle.model.specs.State.{State}
 use Rattle.model.specs.Opening.{Plan}
 use Rattle.step.specs.Questions.{regionAt, heldAt}
-use Rattle.step.specs.Rules.{firstOf, pieceLength, isWhole, isRefusal, Input, Input.answered, Input.flushed}
+use Rattle.step.specs.Rules.{pieceLength, isWhole, Input, Input.answered, Input.flushed}
 use Rattle.step.specs.Step.{queueTag, rowOf, rowAt, bytesAt, planOf, isLive}
 use Rattle.step.specs.Laws.{Made, Made.calls, Made.looks, Event, leave, next, replyTo}
 
@@ -140,15 +137,16 @@ takings s (e ∷ es) = tookBy (replyTo s e) ++ takings (next s e) es
 
 -- ---- the card: "nothing changes the card but a write's piece answered whole, by an answer not turned away: its bytes in the buffer go to its offset"
 
-unfoldable pub isPiece : ℕ → Option Input → Bool
-isPiece n none = false
-isPiece n (some (answered a back flushes)) = isWhole n a
-isPiece n (some (flushed result)) = false
+-- an answer that takes a piece of n bytes whole
+unfoldable pub takesWhole : ℕ → Option Input → Bool
+takesWhole n none = false
+takesWhole n (some (answered a back flushes)) = isWhole n a
+takesWhole n (some (flushed result)) = false
 
 unfoldable pub wroteBy : Plan → Awaits → List ℕ → Option Input → Card → Card
 wroteBy g Nothing bytes i card = card
 wroteBy g (Piece (Page a b) s) bytes i card =
-    pick (isPiece (pieceLength g (Page a b) s) i) (pwrite card (place (g .map) (a .0 + s .done)) (take (pieceLength g (Page a b) s) bytes)) card
+    pick (takesWhole (pieceLength g (Page a b) s) i) (pwrite card (place (g .map) (a .0 + s .done)) (take (pieceLength g (Page a b) s) bytes)) card
 wroteBy g (Piece (Read a b) s) bytes i card = card
 wroteBy g (Flush t) bytes i card = card
 

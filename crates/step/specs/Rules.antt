@@ -1,6 +1,6 @@
 -- Document 01, "An answer arrives": the rules of one operation, written once, for the table and for an operation alone. An operation is what its row
 -- says and the bytes of its buffer; it is fed a piece's answer or a flush result, and the rules say what becomes of it.
-use mathlib.Core.Bool.{Bool, true, false, not, _&&_, _||_}
+use mathlib.Core.Bool.{Bool, true, false, _&&_, _||_}
 use mathlib.Core.List.{List}
 use mathlib.Core.Option.{Option, none, some}
 use Prim.Native.Nat.{ℕ, _+_, _-_, _^_}
@@ -97,7 +97,7 @@ errorOf (Error e media) = Raw e
 errorOf Refused = noError
 errorOf (RefusedWith e media) = Raw e
 
--- ---- the end of a piece that is the operation's last
+-- ---- the end of a piece after which none is issued: the last, or an earlier one that was short, lost, refused or failed
 
 -- "the buffer, if it came back, is turned back to its first arrangement .. (a lost one keeps its bytes as they lie)"
 unfoldable pub turnedBack : Bool → Split → List ℕ → List ℕ
@@ -119,7 +119,7 @@ causeOf a = record { op = writeOp; raw = errorOf a }
 unfoldable pub failedRead : Range → ℕ → Bool → Outcome
 failedRead r e media = pick media (Corruption r) (Io r readOp e)
 
--- "A read ends with its count .. A count without buffer: Interrupted."; "Later piece refused: with an error, as that error. Without one, a read ends QueueFull"
+-- "A read ends with its count .. A count without buffer: Interrupted."; "Later piece refused .. with an error, as that error. Without one, a read ends QueueFull"
 unfoldable pub readOutcome : Range → Split → Answer → Bool → Outcome
 readOutcome r s (Count n) back = pick back (readTo (s .done + n)) (Interrupted r)
 readOutcome r s (Error e media) back = failedRead r e media
@@ -148,7 +148,7 @@ unfoldable pub writtenAs : Opening → Bool → Poisoned → Bool → WriteTicke
 writtenAs o forced first durable t b bytes =
     pick durable (pick (o .flush || forced) (awaits (Flush t) bytes) (ends (unflushed o first t) b bytes none)) (ends (Written t) b bytes none)
 
--- the end of an operation's last piece, by its kind
+-- the end of such a piece, by the operation's kind
 unfoldable pub lastPiece : Opening → Plan → Bool → Poisoned → Row → Kind → Split → List ℕ → Answer → Bool → ℕ → Fate
 lastPiece o g forced first r (Read a b) s bytes answer back flushes =
     ends (readOutcome (rangeOf g (Read a b)) s answer back) (bufferAs back (r .buffer) (readLength s answer)) (turnedBack back s bytes) none

@@ -164,7 +164,7 @@ freeing s r row generation more who bytes cause =
 unfoldable pub planOf : Region → Plan
 planOf g = record { id = g .id; generation = g .generation; map = g .map }
 
--- "and the next piece is the reply"; "keeps the row and replies with tag and need"
+-- "and the next piece is the reply"; "keeps the row and replies with tag and need". The rules never leave an operation awaiting nothing.
 unfoldable pub asksFor : Plan → ℕ → ℕ → Awaits → Reply
 asksFor g t b Nothing = Done t
 asksFor g t b (Piece k s) = piece t (pieceOf (g .map) (firstOf k .0) s .offset) (pieceLength g k s) b
@@ -174,7 +174,7 @@ asksFor g t b (Flush ticket) = flushAsked t (ticket .need)
 unfoldable pub completionOf : Row → Outcome → Buffer → Completion
 completionOf r o b = record { tag = r .tag; outcome = o; buf = b }
 
--- "The host gets Io or QueueFull and the range, and its buffer"
+-- "The host gets Io or QueueFull and the range, and its buffer". Only an operation that awaits a piece is rejected (proofs/Fates.antt).
 unfoldable pub rejection : Plan → Awaits → OsError → Buffer → Reply
 rejection g Nothing e b = turnedAway NotAwaited
 rejection g (Piece k s) e b = Rejected (rangeOf g k) (opOf k) e b
