@@ -23,7 +23,7 @@ use Rattle.step.specs.Step.{rowAt, rowOf, raised, isLive, awaitsNow, poi
 use Rattle.step.specs.Sound.{rangeStart, rangeEnd}
 use Rattle.step.specs.Laws.{Made, done}
 use Rattle.step.specs.Demand3.{isWrite}
-use Rattle.step.proofs.AloneTags.{clash, freed-dead, live-in, names-live}
+use Rattle.step.proofs.AloneTags.{freed-dead, live-in, names-live}
 use Rattle.step.proofs.Named.{one-live}
 use Rattle.step.proofs.Fates.{Follows, Onward, Fitting, FateFits, fate-fits}
 use Rattle.step.proofs.ListsCame.{Came, Came.turned, Came.silent, Came.took, Came.goes, Came.finishes}
@@ -43,14 +43,10 @@ goes-on-with s x i a bytes q = subst (FateFits s x) q (fate-fits s x i) .0
 follows-write : (g : Region) (was now : Awaits) → Follows g was now → isWrite now ≡ isWrite was
 unfolding Follows isWrite
 follows-write g Nothing now f = absurd f
-follows-write g (Piece k s) Nothing f = absurd f
-follows-write g (Piece k s) (Piece k′ s′) f = same-kind k k′ (f .0)
-  where
-    same-kind : (k k′ : Kind) → k′ ≡ k → isWrite (Piece k′ s′) ≡ isWrite (Piece k s)
-    same-kind (Page a b) (Page c d) e = refl
-    same-kind (Page a b) (Read c d) e = clash (cc)
-    same-kind (Read a b) (Page c d) e = clash (cc)
-    same-kind (Read a b) (Read c d) e = refl
+follows-write g (Piece (Page a b) s) Nothing f = absurd f
+follows-write g (Piece (Read a b) s) Nothing f = absurd f
+follows-write g (Piece (Page a b) s) (Piece k′ s′) f = ap (λ (k : Kind). isWrite (Piece k s′)) (f .0)
+follows-write g (Piece (Read a b) s) (Piece k′ s′) f = ap (λ (k : Kind). isWrite (Piece k s′)) (f .0)
 follows-write g (Piece (Page a b) s) (Flush t) f = refl
 follows-write g (Piece (Read a b) s) (Flush t) f = absurd f
 follows-write g (Flush t) now f = absurd f

@@ -73,7 +73,7 @@ module _ (x : Start) (s : State) (i : Sound s) (fx : Fixed x s) (a : Alones) (p 
 
     -- the row is replaced by another, and its operation alone by another course
     module _ (s′ : State) (a′ : Alones) (new : Row) (bytes : List ℕ) (c : Course) where
-      pub record Follows : Type 0 where
+      pub record Leads : Type 0 where
         pub changed : Changed s s′ (rowOf t) (row .buffer) new bytes
         pub long : length bytes ≡ length (bytesAt s (row .buffer))
         pub ops : (u : ℕ) → a′ .ops u ≡ putAt t (some c) (a .ops) u
@@ -83,8 +83,8 @@ module _ (x : Start) (s : State) (i : Sound s) (fx : Fixed x s) (a : Alones) (p 
         pub first : a′ .first ≡ s′ .poison
         pub count : a′ .count ≡ s′ .counts .submissions
 
-      follows : Follows → Projected s′ a′
-      follows w =
+      leads : Leads → Projected s′ a′
+      leads w =
           projected-set s s′ i a a′ p t (rowOf t) (row .buffer) new bytes c
           (record {
             changed = w .changed;
@@ -103,11 +103,11 @@ module _ (x : Start) (s : State) (i : Sound s) (fx : Fixed x s) (a : Alones) (p 
           })
 
     -- the row is freed, and its operation alone is open no more
-    freed-follows : (f : Fate) (bytes : List ℕ) (generation : ℕ) (more : List Completion) (who : Owner) (cause : Option FirstCause) (own : List ℕ) → length bytes ≡ length (bytesAt s (row .buffer))
+    leads-to-freed : (f : Fate) (bytes : List ℕ) (generation : ℕ) (more : List Completion) (who : Owner) (cause : Option FirstCause) (own : List ℕ) → length bytes ≡ length (bytesAt s (row .buffer))
         → ((r : Row) (bs : List ℕ) → onward row own f ≡ isOpen r bs → ⊥) → blamed f ≡ cause → Projected (freeing s (rowOf t) row generation more who bytes cause) (fedWith a t row own f)
     unfolding freeing oneLess
-    freed-follows f bytes generation more who cause own len shut blame =
-        follows (freeing s (rowOf t) row generation more who bytes cause) (fedWith a t row own f) (freed generation) bytes (onward row own f)
+    leads-to-freed f bytes generation more who cause own len shut blame =
+        leads (freeing s (rowOf t) row generation more who bytes cause) (fedWith a t row own f) (freed generation) bytes (onward row own f)
         (record {
           changed = record { settings = refl; regions = refl; rows = refl; pool = refl };
           long = len;
@@ -131,7 +131,7 @@ module _ (x : Start) (s : State) (i : Sound s) (fx : Fixed x s) (a : Alones) (p 
             by-case (yes e) = subst (λ (v : ℕ). putAt t (some (isOpen row own)) (a .ops) v ≡ a .ops v) e (put-here t (some (isOpen row own)) (a .ops) ∙ sym op)
             by-case (no n) = put-there t u (some (isOpen row own)) (a .ops) n
     went (awaits w bytes) own op z =
-        follows (going s (rowOf t) row w bytes) (fedWith a t row own (awaits w bytes)) (awaitsNow row w) bytes (isOpen (awaitsNow row w) bytes)
+        leads (going s (rowOf t) row w bytes) (fedWith a t row own (awaits w bytes)) (awaitsNow row w) bytes (isOpen (awaitsNow row w) bytes)
         (record {
           changed = record { settings = refl; regions = refl; rows = refl; pool = refl };
           long = z .1;
@@ -142,8 +142,8 @@ module _ (x : Start) (s : State) (i : Sound s) (fx : Fixed x s) (a : Alones) (p 
           first = p .first;
           count = p .count;
         })
-    went (ends o b bytes cause) own op z = freed-follows (ends o b bytes cause) bytes _ _ _ cause own (z .1) (λ r bs e. clash (cc)) refl
-    went (rejected e b bytes) own op z = freed-follows (rejected e b bytes) bytes _ _ _ none own (z .2) (λ r bs e. clash (cc)) refl
+    went (ends o b bytes cause) own op z = leads-to-freed (ends o b bytes cause) bytes _ _ _ cause own (z .1) (λ r bs e. clash (cc)) refl
+    went (rejected e b bytes) own op z = leads-to-freed (rejected e b bytes) bytes _ _ _ none own (z .2) (λ r bs e. clash (cc)) refl
 
     -- what the operations alone come to is the fate of the row's
     pub fed-met : (j : Input) (m : Met x s a t j) → feeds (x .opening) (plansOf x) (x .lengths) a (s .pool) t j (a .ops t) ≡ fedWith a t row (m .bytes) (fateOf s row j)
