@@ -2,11 +2,10 @@
 use mathlib.Core.Path.{_≡_, refl, sym, ap, _∙_}
 use mathlib.Core.Bool.{true, false}
 use Prim.Native.Nat.{ℕ, _<_, _^_}
-use native.Mathlib.Decide.{decLt}
 use native.Mathlib.Omega.{arith}
 use borrow.Author.Tests.{eqb-true, eq-eqb}
 use lib.Dec.{eqb}
-use lib.ListN.{length, List·getD-eq-default}
+use lib.ListN.{length}
 use Rattle.layout.proofs.Tests.{not-both, and-left, and-right, and-both}
 use Rattle.model.specs.declared.Awaits.{Awaits}
 use Rattle.model.specs.declared.Awaits.the-variants.{Nothing, Piece, Flush}
@@ -15,6 +14,8 @@ use Rattle.model.specs.State.{State, freed, awaiting}
 use Rattle.step.specs.Step.{queueTag, rowAt, rowOf, generationOf, isLive, names}
 use Rattle.step.specs.Sound.{Sound}
 use Rattle.step.specs.Lists.{tagAt}
+use Rattle.step.proofs.Places.{within}
+use Rattle.step.proofs.Named.{live-below}
 
 -- two different numbers
 pub clash {ℓ} : {A : Type ℓ} → _≡_ {A = ℕ} 0 1 → A
@@ -36,12 +37,6 @@ tag-of t = omega arith
 
 -- ---- live rows
 
-pub live-awaiting : (a : Awaits) → isLive a ≡ true → awaiting a ≡ 1
-unfolding isLive awaiting
-live-awaiting Nothing e = clash (cc)
-live-awaiting (Piece k s) e = refl
-live-awaiting (Flush t) e = refl
-
 pub dead-awaiting : (a : Awaits) → isLive a ≡ false → awaiting a ≡ 0
 unfolding isLive awaiting
 dead-awaiting Nothing e = refl
@@ -56,15 +51,7 @@ freed-dead g = refl
 -- a live row lies in the list
 pub live-in : (s : State) (r : ℕ) → isLive (rowAt s r .awaits) ≡ true → r < length (s .rows)
 unfolding rowAt
-live-in s r live = by-case (decLt r (length (s .rows)))
-  where
-    by-case : Dec (r < length (s .rows)) → r < length (s .rows)
-    by-case (yes lt) = lt
-    by-case (no nlt) =
-        absurd (not-both live (ap (λ (x : Row). isLive (x .awaits)) (List·getD-eq-default (s .rows) (freed 0) (omega (arith, nlt))) ∙ freed-dead 0))
-
-pub live-below : (s : State) → Sound s → (r : ℕ) → isLive (rowAt s r .awaits) ≡ true → r < s .settings .depth
-live-below s i r live = let lt = live-in s r live in let e = i .rows in omega (arith, lt, e)
+live-in s r live = within (s .rows) r (freed 0) (λ (x : Row). isLive (x .awaits) ≡ true) (λ h. not-both h (freed-dead 0)) live
 
 -- depths have 12 bits, rows 32
 pub small-row : (s : State) → Sound s → (r : ℕ) → r < s .settings .depth → r < 2 ^ 32

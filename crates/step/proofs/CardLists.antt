@@ -35,7 +35,7 @@ use Rattle.step.proofs.CardBytes.{wrote-byte, wrote-alike, wrote-none, 
 use Rattle.step.proofs.ListsBrought.{brings}
 use Rattle.step.proofs.ListsRows.{Turned, turned-on, OfBefore, of-before}
 use Rattle.step.proofs.ListsWalk.{host-may, listed, behind, reached, moved}
-use Rattle.step.proofs.ProjectionFixed.{next-kept}
+use Rattle.step.proofs.ProjectionFixed.{next-plans}
 use Rattle.step.proofs.ProjectionFed.{met}
 use Rattle.step.proofs.ProjectionReached.{Reached, nextAlone, reached-left}
 use Rattle.step.proofs.ProjectionSteps.{unnamed, steps-alone}
@@ -65,7 +65,7 @@ mapped-before s e x x′ y o m = record {
 }
   where
     map-is : regionAt s (x .handle) .map ≡ regionAt (next s e) (x′ .handle) .map
-    map-is = sym (ap (λ (h : ℕ). regionAt (next s e) h .map) (o .handle) ∙ ap (λ (g : Plan). g .map) (next-kept s e .plans (x .handle)))
+    map-is = sym (ap (λ (h : ℕ). regionAt (next s e) h .map) (o .handle) ∙ ap (λ (g : Plan). g .map) (next-plans s e (x .handle)))
 
 module _ (x : Start) (s : State) (a : Alones) (k : Reached x s a) (e : Event) (es : List Event) (f : Fits s (e ∷ es)) where
   clear-next : (P : ℕ → Type 0) (y : ℕ) → Clear P s y → Clear P (next s e) y

@@ -25,6 +25,7 @@ use Rattle.step.proofs.CardLists.{Clear, Every, write-live, cold, hot, 
 use Rattle.step.proofs.ListsRows.{Turned, turned-on, idle-stays}
 use Rattle.step.proofs.ListsWalk.{behind, reached, moved, fits-hosted, hosted-take}
 use Rattle.step.proofs.ProjectionReached.{Reached, nextAlone, runAlone, reached-run, alone-append}
+pub use Rattle.step.proofs.Projection.{projection}
 use Rattle.step.proofs.Projection.{reached-after}
 use Rattle.step.proofs.QueueOrder.{count-all, queue-all, done-dead}
 use Rattle.step.proofs.QuietCourse.{courseBy}

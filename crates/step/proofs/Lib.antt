@@ -23,7 +23,7 @@ pub mod Transfers
 pub mod Laws
 pub mod Figures
 pub mod AloneTags
-pub mod AloneRules
+pub mod QuietRules
 pub mod ProjectionFixed
 pub mod ProjectionHost
 pub mod ProjectionSet

@@ -1,10 +1,10 @@
 -- An event that brings an answer or a flush result to the operation under a queue tag: what it does to the table and to the operations alone.
-use mathlib.Core.Path.{_≡_, refl, ap, subst₂}
+use mathlib.Core.Path.{_≡_, refl, ap, _∙_, subst₂}
 use mathlib.Core.Bool.{Bool, true, false}
 use mathlib.Core.Option.{none, some}
 use mathlib.Core.List.{List}
 use Prim.Native.Nat.{ℕ}
-use borrow.Author.Tests.{eqb-true}
+use borrow.Author.Tests.{eqb-true, eq-eqb}
 use lib.Dec.{eqb}
 use Rattle.layout.specs.Pick.{pick}
 use Rattle.completion.specs.declared.Refusal.the-variants.{Unfit}
@@ -13,13 +13,14 @@ use Rattle.completion.specs.declared.Reply.the-variants.{No as turnedAway}
 use Rattle.model.specs.declared.Lengths.{Lengths}
 use Rattle.model.specs.declared.Call.{Call}
 use Rattle.model.specs.declared.Call.the-variants.{Write, ReadPage, Answer, Flushed, Take, SetGate, SetReadOnly, SetForced, ReportPoison}
+use Rattle.model.specs.declared.Lookup.{Lookup}
 use Rattle.model.specs.State.{State}
 use Rattle.step.specs.Rules.{Input, Input.answered, Input.flushed}
 use Rattle.step.specs.Step.{underTag, called, eqLengths, step}
 use Rattle.step.specs.Laws.{Made, Made.calls, Made.looks, done}
 use Rattle.step.specs.Lists.{broughtBy, brought, tagIn}
 use Rattle.step.specs.Alone.{Alones, feeds, heardCall, heard}
-use Rattle.step.specs.Demand3.{Start, plansOf}
+use Rattle.step.specs.Demand3.{Start, plansOf, listedCall, isListed}
 use Rattle.step.proofs.AloneTags.{clash}
 
 -- a value that a test let through
@@ -55,3 +56,28 @@ brings (calls (SetReadOnly h y)) t i e = clash (cc)
 brings (calls (SetForced h y)) t i e = clash (cc)
 brings (calls (ReportPoison cause)) t i e = clash (cc)
 brings (looks y) t i e = clash (cc)
+
+-- the input comes to the operation under its tag
+pub brought-there : (m : Made) (t : ℕ) (i : Input) → Brings m t i → brought t m ≡ some i
+unfolding pick
+brought-there m t i b = b .under t ∙ ap (λ (c : Bool). pick c (some i) none) (eq-eqb t t refl)
+
+-- ---- what demand 3's lists may hold: "answers, flush results, takings and lookups"
+
+pub data Listed (m : Made) : Type 0 where
+  brings-to : (t : ℕ) (i : Input) → Brings m t i → Listed m
+  takes : m ≡ calls Take → Listed m
+  looks-up : (y : Lookup) → m ≡ looks y → Listed m
+
+pub listed-is : (m : Made) → isListed m ≡ true → Listed m
+unfolding isListed listedCall brought broughtBy pick
+listed-is (calls (Write q)) e = clash (cc)
+listed-is (calls (ReadPage q)) e = clash (cc)
+listed-is (calls (Answer t y back flushes)) e = brings-to t (answered y back flushes) (brings (calls (Answer t y back flushes)) t (answered y back flushes) (rw (eq-eqb t t refl)))
+listed-is (calls (Flushed t result)) e = brings-to t (flushed result) (brings (calls (Flushed t result)) t (flushed result) (rw (eq-eqb t t refl)))
+listed-is (calls Take) e = takes refl
+listed-is (calls (SetGate h y)) e = clash (cc)
+listed-is (calls (SetReadOnly h y)) e = clash (cc)
+listed-is (calls (SetForced h y)) e = clash (cc)
+listed-is (calls (ReportPoison cause)) e = clash (cc)
+listed-is (looks y) e = looks-up y refl

@@ -1,11 +1,10 @@
 -- What one event of demand 3's lists comes to: it is turned away, or changes nothing, or takes a completion, or an operation goes on or ends; none is
 -- rejected, and none poisons.
-use mathlib.Core.Path.{_≡_, refl, ap, _∙_, subst}
+use mathlib.Core.Path.{_≡_, refl, sym, ap, _∙_, subst}
 use mathlib.Core.Bool.{Bool, true, false}
 use mathlib.Core.Option.{Option, none, some}
 use mathlib.Core.List.{List, [], _∷_}
 use Prim.Native.Nat.{ℕ}
-use borrow.Author.Tests.{eq-eqb}
 use Rattle.layout.specs.Pick.{pick}
 use Rattle.domain.specs.declared.FirstCause.{FirstCause}
 use Rattle.domain.specs.declared.OsError.{OsError}
@@ -19,22 +18,23 @@ use Rattle.completion.specs.declared.Reply.the-variants.{No as turnedAway, None
 use Rattle.model.specs.declared.Lengths.{Lengths}
 use Rattle.model.specs.declared.Awaits.{Awaits}
 use Rattle.model.specs.declared.Row.{Row}
-use Rattle.model.specs.declared.Call.the-variants.{Write, ReadPage, Answer, Flushed, Take, SetGate, SetReadOnly, SetForced, ReportPoison}
+use Rattle.model.specs.declared.Call.the-variants.{Take}
 use Rattle.model.specs.declared.Lookup.{Lookup}
 use Rattle.model.specs.declared.Lookup.the-variants.{WritesLive, Mark as MarkNow}
 use Rattle.model.specs.State.{State}
 use Rattle.step.specs.Questions.{regionAt}
-use Rattle.step.specs.Rules.{Input, Input.answered, Input.flushed, Fate, Fate.away, Fate.awaits, Fate.ends, Fate.rejected}
+use Rattle.step.specs.Rules.{Input, Fate, Fate.away, Fate.awaits, Fate.ends, Fate.rejected}
 use Rattle.step.specs.Step.{rowAt, rowOf, names, bytesAt, planOf, settled, fateOf, underTag, taken, lookedUp, called, eqLengths, step, look}
 use Rattle.step.specs.Sound.{Sound}
-use Rattle.step.specs.Laws.{Made, Made.calls, Made.looks, done}
+use Rattle.step.specs.Laws.{Made, Made.calls, done}
 use Rattle.step.specs.Lists.{broughtBy, brought, isAway, tookBy, planAt, tagIn}
-use Rattle.step.specs.Demand3.{listedCall, isListed, FairTo}
-use Rattle.step.proofs.AloneTags.{clash, names-live}
-use Rattle.step.proofs.AloneRules.{Told, told, Calm, calm}
-use Rattle.step.proofs.ListsBrought.{Brings, brings}
+use Rattle.step.specs.Demand3.{FairTo}
+use Rattle.step.proofs.AloneTags.{names-live}
+use Rattle.step.proofs.Fates.{Fitting, FateFits, fate-fits}
+use Rattle.step.proofs.Away.{rejects}
+use Rattle.step.proofs.QuietRules.{Calm, calm}
+use Rattle.step.proofs.ListsBrought.{Brings, brought-there, Listed, Listed.brings-to, Listed.takes, Listed.looks-up}
 use Rattle.step.proofs.ProjectionHost.{live-in-table}
-use Rattle.step.proofs.QuietCourse.{rejection-heard}
 
 pub data Came (s : State) (l : Lengths) (m : Made) : Type 0 where
   turned : (f : Refusal) → done s l m ≡ (s, turnedAway f) → Came s l m
@@ -78,14 +78,14 @@ module _ (s : State) (sound : Sound s) (l : Lengths) (m : Made) (t : ℕ) (i : I
 
     -- none is rejected
     pub not-rejected : (e : OsError) (b : Buffer) (bytes : List ℕ) → fateOf s row i ≡ rejected e b bytes → done s l m ≡ settled s t row (rejected e b bytes) → ⊥
-    unfolding settled Calm Told
+    unfolding settled Calm Fitting
     not-rejected e b bytes q d = subst Calm q (fate-calm heard)
       where
-        told-is : Told (row .awaits) (bytesAt s (row .buffer)) (rejected e b bytes)
-        told-is = subst (Told (row .awaits) (bytesAt s (row .buffer))) q (unfold fateOf in told (s .settings) (planOf (regionAt s (row .handle))) (regionAt s (row .handle) .forced) (s .poison) row (bytesAt s (row .buffer)) i)
+        fits : FateFits s row (rejected e b bytes)
+        fits = subst (FateFits s row) q (fate-fits s row i)
 
         heard : isAway (done s l m .1) ≡ false
-        heard = ap (λ (y : State × Reply). isAway (y .1)) d ∙ rejection-heard (planOf (regionAt s (row .handle))) (row .awaits) e b (told-is .0)
+        heard = ap (λ (y : State × Reply). isAway (y .1)) d ∙ rejects (planOf (regionAt s (row .handle))) (row .awaits) e b (fits .0)
 
     came-met : (f : Fate) → fateOf s row i ≡ f → done s l m ≡ settled s t row f → Came s l m
     unfolding settled Calm
@@ -115,18 +115,14 @@ module _ (s : State) (sound : Sound s) (l : Lengths) (m : Made) (t : ℕ) (i : I
 abbrev pub FairCall : State → Lengths → Made → Type 0
 FairCall s l m = (i : Input) → brought (tagIn m) m ≡ some i → isAway (done s l m .1) ≡ false → FairTo s (rowAt s (rowOf (tagIn m))) (rowAt s (rowOf (tagIn m)) .awaits) i
 
-came-under : (s : State) → Sound s → (l : Lengths) (m : Made) (i : Input) → brought (tagIn m) m ≡ some i → FairCall s l m → Came s l m
-came-under s sound l m i b fair = came-brought s sound l m (tagIn m) i (brings m (tagIn m) i b) (fair i b)
+-- that under the tag of an input
+pub fair-under : (s : State) (l : Lengths) (m : Made) (t : ℕ) (i : Input) → Brings m t i → FairCall s l m → isAway (done s l m .1) ≡ false → FairTo s (rowAt s (rowOf t)) (rowAt s (rowOf t) .awaits) i
+fair-under s l m t i br fair heard =
+    subst (λ (u : ℕ). FairTo s (rowAt s (rowOf u)) (rowAt s (rowOf u) .awaits) i) (br .tag)
+    (fair i (ap (λ (u : ℕ). brought u m) (br .tag) ∙ brought-there m t i br) heard)
 
-pub came : (s : State) → Sound s → (l : Lengths) (m : Made) → isListed m ≡ true → FairCall s l m → Came s l m
-unfolding isListed listedCall brought broughtBy tagIn done pick
-came s sound l (calls (Write q)) e fair = clash (cc)
-came s sound l (calls (ReadPage q)) e fair = clash (cc)
-came s sound l (calls (Answer t y back flushes)) e fair = came-under s sound l (calls (Answer t y back flushes)) (answered y back flushes) (rw (eq-eqb t t refl)) fair
-came s sound l (calls (Flushed t result)) e fair = came-under s sound l (calls (Flushed t result)) (flushed result) (rw (eq-eqb t t refl)) fair
-came s sound l (calls Take) e fair = came-taking s l (eqLengths l (s .lengths)) refl (s .ready) refl
-came s sound l (calls (SetGate h y)) e fair = clash (cc)
-came s sound l (calls (SetReadOnly h y)) e fair = clash (cc)
-came s sound l (calls (SetForced h y)) e fair = clash (cc)
-came s sound l (calls (ReportPoison cause)) e fair = clash (cc)
-came s sound l (looks y) e fair = silent (λ t. refl) refl (lookup-gives-none s l y)
+pub came : (s : State) → Sound s → (l : Lengths) (m : Made) → Listed m → FairCall s l m → Came s l m
+unfolding done brought
+came s sound l m (brings-to t i br) fair = came-brought s sound l m t i br (fair-under s l m t i br fair)
+came s sound l m (takes e) fair = subst (Came s l) (sym e) (came-taking s l (eqLengths l (s .lengths)) refl (s .ready) refl)
+came s sound l m (looks-up y e) fair = subst (Came s l) (sym e) (silent (λ t. refl) refl (lookup-gives-none s l y))

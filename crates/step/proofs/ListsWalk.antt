@@ -17,6 +17,7 @@ use Rattle.step.specs.Lists.{planAt, HostMay, Hosted}
 use Rattle.step.specs.Alone.{Alones}
 use Rattle.step.specs.Demand3.{Start, isListed, FairTo, Fair, Fits}
 use Rattle.step.proofs.ProjectionReached.{Reached, nextAlone, reached-left, reached-next}
+use Rattle.step.proofs.ListsBrought.{listed-is}
 use Rattle.step.proofs.ListsCame.{Came, FairCall, came}
 use Rattle.step.proofs.ListsRows.{Moved, row-moved}
 
@@ -51,7 +52,7 @@ module _ (x : Start) (s : State) (a : Alones) (k : Reached x s a) (e : Event) (e
   fair-next i b h = fair-left s (e .leaves) _ _ i (f .2 i b h)
 
   pub came-next : Came s₁ (e .lengths) (e .made)
-  came-next = came s₁ (reached-left x s a k (e .leaves) host-may .sound) (e .lengths) (e .made) listed fair-next
+  came-next = came s₁ (reached-left x s a k (e .leaves) host-may .sound) (e .lengths) (e .made) (listed-is (e .made) listed) fair-next
 
   pub reached : Reached x (next s e) (nextAlone x s a e)
   reached = reached-next x s a k e host-may

@@ -5,8 +5,7 @@ use mathlib.Core.Option.{some}
 use mathlib.Core.List.{List}
 use Prim.Native.Nat.{ℕ, _+_, _<_, _^_}
 use native.Mathlib.Omega.{arith}
-use lib.ListN.{length, drop}
-use lib.Seq.{drop-cons}
+use lib.ListN.{length}
 use Rattle.iobuf.specs.Turn.{stretch, withStretch}
 use Rattle.iobuf.proofs.Laws.{turn-laws}
 use Rattle.model.specs.declared.Opening.{Opening}
@@ -15,18 +14,19 @@ use Rattle.model.specs.declared.Request.{Request}
 use Rattle.model.specs.declared.Asked.{Asked}
 use Rattle.model.specs.declared.Asked.the-variants.{Yes, No}
 use Rattle.model.specs.declared.Row.{Row}
-use Rattle.model.specs.State.{State, awaiting}
+use Rattle.model.specs.State.{State}
 use Rattle.step.specs.Questions.{heldAt}
 use Rattle.step.specs.Step.{queueTag, topOf, rowAt, generationOf, isLive, names, claimedBy, oneMore, accepted, submitted, verdictOf}
-use Rattle.step.specs.Sound.{times, Sound}
+use Rattle.step.specs.Sound.{Sound}
 use Rattle.step.specs.Alone.{Course.isOpen, Alones, tagGiven, begins}
 use Rattle.step.specs.Demand3.{Start, Projected}
 use Rattle.step.proofs.Answers.{Passed}
-use Rattle.step.proofs.Counts.{times-same}
-use Rattle.step.proofs.Taken.{top-row}
-use Rattle.step.proofs.AloneTags.{live-awaiting, small-row, row-of-tag, generation-of-tag, names-live, names-by}
+use Rattle.step.proofs.Taken.{top-row, awaits-nothing}
+use Rattle.step.proofs.Buffers.{in-pool}
+use Rattle.step.proofs.Named.{live-one}
+use Rattle.step.proofs.AloneTags.{small-row, row-of-tag, generation-of-tag, names-live, names-by}
 use Rattle.step.proofs.ProjectionFixed.{Fixed}
-use Rattle.step.proofs.ProjectionHost.{in-pool, not-held}
+use Rattle.step.proofs.ProjectionHost.{not-held}
 use Rattle.step.proofs.ProjectionSet.{projected-set}
 
 module _ (x : Start) (s : State) (i : Sound s) (fx : Fixed x s) (a : Alones) (p : Projected s a) (k : Kind) (q : Request) where
@@ -46,15 +46,8 @@ module _ (x : Start) (s : State) (i : Sound s) (fx : Fixed x s) (a : Alones) (p 
     top-in : top < length (s .rows)
     top-in = let lt = top-row s i (ok .room) in let e = i .rows in omega (arith, lt, e)
 
-    times-top : times top (s .free) ≡ 1 + times top (drop 1 (s .free))
-    unfolding topOf
-    times-top = ap (times top) (drop-cons (s .free) 0 0 (let room = ok .room in omega (arith, i .balance, i .live, room))) ∙ times-same top (drop 1 (s .free))
-
-    top-awaits : awaiting (rowAt s top .awaits) ≡ 0
-    top-awaits = omega (arith, times-top, i .free-once top (top-row s i (ok .room)))
-
     top-dead : isLive (rowAt s top .awaits) ≡ true → ⊥
-    top-dead live = omega (arith, live-awaiting (rowAt s top .awaits) live, top-awaits)
+    top-dead live = omega (arith, live-one (rowAt s top .awaits) live, awaits-nothing s i (ok .room))
 
     top-small : top < 2 ^ 32
     top-small = small-row s i top (top-row s i (ok .room))
@@ -83,7 +76,7 @@ module _ (x : Start) (s : State) (i : Sound s) (fx : Fixed x s) (a : Alones) (p 
           in-rows = top-in;
           row = row-of-tag top (rowAt s top .generation) top-small;
           in-buffers = ok .buffer;
-          long = sym (ap length stretches) ∙ turn-laws .stretch-length (s .settings .capacity) (q .buffer) (s .pool) (in-pool s i (q .buffer) (ok .buffer));
+          long = sym (ap length stretches) ∙ turn-laws .stretch-length (s .settings .capacity) (q .buffer) (s .pool) (in-pool s i (q .buffer) (ok .buffer) (s .pool) (i .pool));
           apart = λ r n live e. not-held s i r live (ap (heldAt s) e ∙ ok .held);
           tags = λ u e z. absurd (top-dead (names-live (rowAt s top) u z));
           ops = λ u. refl;

@@ -8,24 +8,24 @@ use native.Mathlib.Decide.{ℕ-discrete}
 use lib.ListN.{length}
 use Rattle.layout.specs.Pick.{pick}
 use Rattle.layout.proofs.Tests.{not-both}
-use Rattle.iobuf.proofs.Laws.{turn-laws}
 use Rattle.domain.specs.declared.FirstCause.{FirstCause}
 use Rattle.completion.specs.declared.Refusal.the-variants.{UnknownTag}
 use Rattle.completion.specs.declared.Completion.{Completion}
 use Rattle.completion.specs.declared.Reply.the-variants.{No as turnedAway}
 use Rattle.model.specs.declared.Row.{Row}
 use Rattle.model.specs.State.{Owner, State, freed}
-use Rattle.step.specs.Questions.{regionAt}
 use Rattle.step.specs.Rules.{Input, Fate, Fate.away, Fate.awaits, Fate.ends, Fate.rejected}
-use Rattle.step.specs.Step.{queueTag, rowAt, rowOf, isLive, names, bytesAt, planOf, awaitsNow, oneLess, poisonWith, going, freeing, settled, fateOf, underTag}
+use Rattle.step.specs.Step.{queueTag, rowAt, rowOf, isLive, names, bytesAt, awaitsNow, oneLess, poisonWith, going, freeing, settled, fateOf, underTag}
 use Rattle.step.specs.Sound.{Sound}
 use Rattle.step.specs.Lists.{tagAt}
 use Rattle.step.specs.Alone.{Course, Course.isOpen, Course.completed, Course.wasRefused, Alones, putAt, onward, blamed, aloneFate, feeds}
 use Rattle.step.specs.Demand3.{Start, plansOf, Alike, Projected}
 use Rattle.step.proofs.AloneTags.{clash, freed-dead, live-in, names-live, names-generation, names-by, named-tag, one-tag}
-use Rattle.step.proofs.AloneRules.{Told, told}
+use Rattle.step.proofs.Named.{one-live}
+use Rattle.step.proofs.Buffers.{bytes-length}
+use Rattle.step.proofs.Fates.{Fitting, FateFits, fate-fits}
 use Rattle.step.proofs.ProjectionFixed.{Fixed}
-use Rattle.step.proofs.ProjectionHost.{sole, in-pool, live-in-table, same-fate}
+use Rattle.step.proofs.ProjectionHost.{sole, live-in-table, same-fate}
 use Rattle.step.proofs.ProjectionSet.{put-here, put-there, Changed, projected-set}
 use Rattle.step.proofs.ProjectionRows.{projected-same}
 
@@ -71,13 +71,9 @@ module _ (x : Start) (s : State) (i : Sound s) (fx : Fixed x s) (a : Alones) (p 
           fate = same-fate x s fx a row (z .bytes) j (p .forced (row .handle) (live-in-table s i (rowOf t) live .region)) (p .first) (z .alike);
         }
 
-    pub long : length (bytesAt s (row .buffer)) ≡ s .settings .capacity
-    unfolding bytesAt
-    long = turn-laws .stretch-length (s .settings .capacity) (row .buffer) (s .pool) (in-pool s i (row .buffer) (live-in-table s i (rowOf t) live .buffer))
-
     -- the row is replaced by another, and its operation alone by another course
     module _ (s′ : State) (a′ : Alones) (new : Row) (bytes : List ℕ) (c : Course) where
-      pub record Follows : Type 0 where
+      pub record Leads : Type 0 where
         pub changed : Changed s s′ (rowOf t) (row .buffer) new bytes
         pub long : length bytes ≡ length (bytesAt s (row .buffer))
         pub ops : (u : ℕ) → a′ .ops u ≡ putAt t (some c) (a .ops) u
@@ -87,15 +83,15 @@ module _ (x : Start) (s : State) (i : Sound s) (fx : Fixed x s) (a : Alones) (p 
         pub first : a′ .first ≡ s′ .poison
         pub count : a′ .count ≡ s′ .counts .submissions
 
-      follows : Follows → Projected s′ a′
-      follows w =
+      leads : Leads → Projected s′ a′
+      leads w =
           projected-set s s′ i a a′ p t (rowOf t) (row .buffer) new bytes c
           (record {
             changed = w .changed;
             in-rows = live-in s (rowOf t) live;
             row = refl;
             in-buffers = live-in-table s i (rowOf t) live .buffer;
-            long = w .long ∙ long;
+            long = w .long ∙ bytes-length s i (row .buffer) (live-in-table s i (rowOf t) live .buffer);
             apart = λ r n l e. n (sole s i (rowOf t) r live l e);
             tags = λ u e z. one-tag row u t e z named;
             ops = w .ops;
@@ -107,11 +103,11 @@ module _ (x : Start) (s : State) (i : Sound s) (fx : Fixed x s) (a : Alones) (p 
           })
 
     -- the row is freed, and its operation alone is open no more
-    freed-follows : (f : Fate) (bytes : List ℕ) (generation : ℕ) (more : List Completion) (who : Owner) (cause : Option FirstCause) (own : List ℕ) → length bytes ≡ length (bytesAt s (row .buffer))
+    leads-to-freed : (f : Fate) (bytes : List ℕ) (generation : ℕ) (more : List Completion) (who : Owner) (cause : Option FirstCause) (own : List ℕ) → length bytes ≡ length (bytesAt s (row .buffer))
         → ((r : Row) (bs : List ℕ) → onward row own f ≡ isOpen r bs → ⊥) → blamed f ≡ cause → Projected (freeing s (rowOf t) row generation more who bytes cause) (fedWith a t row own f)
     unfolding freeing oneLess
-    freed-follows f bytes generation more who cause own len shut blame =
-        follows (freeing s (rowOf t) row generation more who bytes cause) (fedWith a t row own f) (freed generation) bytes (onward row own f)
+    leads-to-freed f bytes generation more who cause own len shut blame =
+        leads (freeing s (rowOf t) row generation more who bytes cause) (fedWith a t row own f) (freed generation) bytes (onward row own f)
         (record {
           changed = record { settings = refl; regions = refl; rows = refl; pool = refl };
           long = len;
@@ -123,8 +119,8 @@ module _ (x : Start) (s : State) (i : Sound s) (fx : Fixed x s) (a : Alones) (p 
           count = p .count;
         })
 
-    went : (f : Fate) (own : List ℕ) → a .ops t ≡ some (isOpen row own) → Told (row .awaits) (bytesAt s (row .buffer)) f → Projected (settled s t row f .0) (fedWith a t row own f)
-    unfolding settled going Told onward blamed poisonWith awaitsNow
+    went : (f : Fate) (own : List ℕ) → a .ops t ≡ some (isOpen row own) → FateFits s row f → Projected (settled s t row f .0) (fedWith a t row own f)
+    unfolding settled going Fitting onward blamed poisonWith awaitsNow
     went (away f) own op z =
         projected-same s a (fedWith a t row own (away f)) p same (λ h. refl) refl refl
       where
@@ -135,19 +131,19 @@ module _ (x : Start) (s : State) (i : Sound s) (fx : Fixed x s) (a : Alones) (p 
             by-case (yes e) = subst (λ (v : ℕ). putAt t (some (isOpen row own)) (a .ops) v ≡ a .ops v) e (put-here t (some (isOpen row own)) (a .ops) ∙ sym op)
             by-case (no n) = put-there t u (some (isOpen row own)) (a .ops) n
     went (awaits w bytes) own op z =
-        follows (going s (rowOf t) row w bytes) (fedWith a t row own (awaits w bytes)) (awaitsNow row w) bytes (isOpen (awaitsNow row w) bytes)
+        leads (going s (rowOf t) row w bytes) (fedWith a t row own (awaits w bytes)) (awaitsNow row w) bytes (isOpen (awaitsNow row w) bytes)
         (record {
           changed = record { settings = refl; regions = refl; rows = refl; pool = refl };
           long = z .1;
           ops = λ u. refl;
           to-open = λ l. (refl, unfold tagAt in named-tag s t named, refl);
-          from-open = λ r bs e. (names-by (awaitsNow row w) t (z .0 .live) (names-generation row t named), cc);
+          from-open = λ r bs e. (names-by (awaitsNow row w) t (one-live w (z .0 .live)) (names-generation row t named), cc);
           forced = λ h. refl;
           first = p .first;
           count = p .count;
         })
-    went (ends o b bytes cause) own op z = freed-follows (ends o b bytes cause) bytes _ _ _ cause own z (λ r bs e. clash (cc)) refl
-    went (rejected e b bytes) own op z = freed-follows (rejected e b bytes) bytes _ _ _ none own (z .1) (λ r bs e. clash (cc)) refl
+    went (ends o b bytes cause) own op z = leads-to-freed (ends o b bytes cause) bytes _ _ _ cause own (z .1) (λ r bs e. clash (cc)) refl
+    went (rejected e b bytes) own op z = leads-to-freed (rejected e b bytes) bytes _ _ _ none own (z .2) (λ r bs e. clash (cc)) refl
 
     -- what the operations alone come to is the fate of the row's
     pub fed-met : (j : Input) (m : Met x s a t j) → feeds (x .opening) (plansOf x) (x .lengths) a (s .pool) t j (a .ops t) ≡ fedWith a t row (m .bytes) (fateOf s row j)
@@ -155,14 +151,10 @@ module _ (x : Start) (s : State) (i : Sound s) (fx : Fixed x s) (a : Alones) (p 
     fed-met j m =
         ap (feeds (x .opening) (plansOf x) (x .lengths) a (s .pool) t j) (m .is-open) ∙ ap (fedWith a t row (m .bytes)) (sym (m .fate))
 
-    pub fate-told : (j : Input) → Told (row .awaits) (bytesAt s (row .buffer)) (fateOf s row j)
-    unfolding fateOf
-    fate-told j = told (s .settings) (planOf (regionAt s (row .handle))) (regionAt s (row .handle) .forced) (s .poison) row (bytesAt s (row .buffer)) j
-
   pub projected-fed : (j : Input) → Projected (underTag s t j .0) (feeds (x .opening) (plansOf x) (x .lengths) a (s .pool) t j (a .ops t))
   unfolding underTag pick
   projected-fed j = by-name (names row t) refl
     where
       by-name : (b : Bool) → names row t ≡ b → Projected (pick b (settled s t row (fateOf s row j)) (s, turnedAway UnknownTag) .0) (feeds (x .opening) (plansOf x) (x .lengths) a (s .pool) t j (a .ops t))
-      by-name true e = let m = met e j in subst (Projected (settled s t row (fateOf s row j) .0)) (sym (fed-met e j m)) (went e (fateOf s row j) (m .bytes) (m .is-open) (fate-told e j))
+      by-name true e = let m = met e j in subst (Projected (settled s t row (fateOf s row j) .0)) (sym (fed-met e j m)) (went e (fateOf s row j) (m .bytes) (m .is-open) (fate-fits s row j))
       by-name false e = subst (Projected s) (sym (feeds-none x a (s .pool) t j (a .ops t) (λ r bytes q. not-both (open-named r bytes q) e))) p

@@ -4,17 +4,13 @@ use mathlib.Core.Path.{_≡_, refl, sym, ap, _∙_, subst}
 use mathlib.Core.Logic.{_≢_, _⊎_, inl, inr}
 use mathlib.Core.Bool.{true}
 use mathlib.Core.List.{List, [], _++_}
-use Prim.Native.Nat.{ℕ, suc, _+_, _*_, _≤_, _<_}
-use native.Mathlib.Nat.{suc-mul, mul-le-mul-right}
+use Prim.Native.Nat.{ℕ, _+_, _≤_, _<_}
 use native.Mathlib.Decide.{ℕ-discrete}
 use native.Mathlib.Omega.{arith}
-use borrow.Author.Tests.{eq-eqb}
 use lib.ListN.{length, getD, set, take, drop, length-set, take-append-drop}
 use lib.Seq.{getD-set-other}
-use Rattle.layout.specs.Pick.{pick}
 use Rattle.layout.proofs.Tests.{not-both}
 use Rattle.iobuf.specs.Turn.{stretch}
-use Rattle.iobuf.specs.TurnLaws.{Fits}
 use Rattle.model.specs.declared.Opening.{Opening}
 use Rattle.model.specs.declared.Row.{Row}
 use Rattle.model.specs.State.{Owner, Owner.host, Owner.table, Owner.lost, State, freed}
@@ -28,8 +24,10 @@ use Rattle.step.specs.Laws.{leave}
 use Rattle.step.specs.Lists.{loose, planAt, LooseIn, HostMay}
 use Rattle.step.specs.Alone.{Alones, withLeft, aloneFate}
 use Rattle.step.specs.Demand3.{Start, plansOf, Alike}
-use Rattle.step.proofs.Counts.{hold-set, holds-none}
-use Rattle.step.proofs.AloneTags.{live-awaiting, freed-dead, dead-awaiting, live-in, live-below}
+use Rattle.step.proofs.Counts.{hold-set, holds-none, holds-own, has-most}
+use Rattle.step.proofs.Freed.{had}
+use Rattle.step.proofs.Named.{live-one, live-below}
+use Rattle.step.proofs.AloneTags.{freed-dead, dead-awaiting, live-in}
 use Rattle.step.proofs.ProjectionFixed.{Fixed}
 
 -- ---- who holds a buffer
@@ -48,14 +46,7 @@ two-hold b l r k n lr lk =
     omega (arith, hold-set b l r (freed 0) (freed 0) lr, freed-holds b, other, ap (rowHolds b) same)
 
 live-holds : (x : Row) (b : ℕ) → isLive (x .awaits) ≡ true → x .buffer ≡ b → rowHolds b x ≡ 1
-unfolding rowHolds pick
-live-holds x b live e = rw (eq-eqb (x .buffer) b e) (live-awaiting (x .awaits) live)
-
-table-most : (w : Owner) → tableHas w ≤ 1
-unfolding tableHas
-table-most host = omega arith
-table-most table = omega arith
-table-most lost = omega arith
+live-holds x b live e = ap (λ (n : ℕ). rowHolds n x) (sym e) ∙ holds-own x ∙ live-one (x .awaits) live
 
 host-none : (w : Owner) → isHost w ≡ true → tableHas w ≡ 0
 unfolding isHost tableHas
@@ -75,27 +66,15 @@ module _ (s : State) (i : Sound s) where
       by-case : Dec (k ≡ r) → k ≡ r
       by-case (yes p) = p
       by-case (no n) =
-          absurd (omega (arith, two-hold b (s .rows) k r n (live-in s k lk) (live-in s r lr), live-holds (rowAt s k) b lk e, live-holds (rowAt s r) b lr refl, i .holders b, table-most (getD (s .owners) b lost)))
+          absurd (omega (arith, two-hold b (s .rows) k r n (live-in s k lk) (live-in s r lr), live-holds (rowAt s k) b lk e, live-holds (rowAt s r) b lr refl, i .holders b, has-most (getD (s .owners) b lost)))
 
   -- and the host does not hold it
   pub not-held : (r : ℕ) → isLive (rowAt s r .awaits) ≡ true → heldAt s (rowAt s r .buffer) ≡ true → ⊥
   unfolding heldAt rowAt
-  not-held r live held =
-      let b = rowAt s r .buffer in
-      omega (arith, one-holds b (s .rows) r (live-in s r live), live-holds (rowAt s r) b live refl, i .holders b, host-none (getD (s .owners) b lost) held)
-
-  -- a buffer of the pool lies in it
-  pub in-pool : (b : ℕ) → b < s .settings .buffers → Fits (s .settings .capacity) b (s .pool)
-  in-pool b lt =
-      let cap = s .settings .capacity in
-      let one : b * cap + cap ≡ suc b * cap = sym (suc-mul b cap) in
-      let all : suc b * cap ≤ s .settings .buffers * cap = mul-le-mul-right cap lt in
-      let whole = i .pool in
-      let whole-is = i .pool-is in
-      omega (arith, one, all, whole, whole-is)
+  not-held r live held = omega (arith, had s i r (live-below s i r live) (live-one (rowAt s r .awaits) live), host-none (getD (s .owners) (rowAt s r .buffer) lost) held)
 
   pub live-in-table : (r : ℕ) → isLive (rowAt s r .awaits) ≡ true → InTable s (rowAt s r)
-  live-in-table r live = i .in-table r (live-below s i r live) (live-awaiting (rowAt s r .awaits) live)
+  live-in-table r live = i .in-table r (live-below s i r live) (live-one (rowAt s r .awaits) live)
 
   -- what the host leaves of a live row's buffer
   pub left-alike : (pool : List ℕ) → HostMay s pool → (r : ℕ) → isLive (rowAt s r .awaits) ≡ true

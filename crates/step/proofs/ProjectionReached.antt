@@ -6,7 +6,6 @@ use Prim.Native.Nat.{ℕ}
 use lib.ListN.{List·getD-map}
 use Rattle.layout.proofs.Tests.{not-both}
 use Rattle.regionmap.specs.Words.{runsIn, mapIn}
-use Rattle.model.specs.declared.Lengths.{Lengths}
 use Rattle.model.specs.declared.Row.{Row}
 use Rattle.model.specs.State.{Region, noRegion, State, freed}
 use Rattle.model.specs.Opening.{atFirst, opened}
@@ -14,7 +13,7 @@ use Rattle.model.specs.Memory.{planIn}
 use Rattle.step.specs.Questions.{regionAt}
 use Rattle.step.specs.Step.{rowAt, isLive}
 use Rattle.step.specs.Sound.{Sound}
-use Rattle.step.specs.Laws.{Made, Made.calls, Made.looks, Event, leave, done, next, replyTo, run}
+use Rattle.step.specs.Laws.{Event, leave, next, replyTo, run}
 use Rattle.step.specs.Lists.{HostMay, Hosted}
 use Rattle.step.specs.Alone.{Alones, noneYet, aloneNext, alones}
 use Rattle.step.specs.Demand3.{Start, plansOf, openedBy, Projected}
@@ -23,7 +22,7 @@ use Rattle.step.proofs.Opened.{opened-sound}
 use Rattle.step.proofs.Histories.{leaves, keeps-next}
 use Rattle.step.proofs.Laws.{keeps}
 use Rattle.step.proofs.AloneTags.{clash, freed-dead}
-use Rattle.step.proofs.ProjectionFixed.{Fixed, fixed-opened, fixed-kept, fixed-left, done-kept}
+use Rattle.step.proofs.ProjectionFixed.{Fixed, fixed-opened, fixed-left, fixed-next}
 use Rattle.step.proofs.ProjectionRows.{projected-left}
 use Rattle.step.proofs.ProjectionCalls.{projected-done}
 
@@ -84,7 +83,7 @@ module _ (x : Start) where
       let s′ = leave s (e .leaves) in
       record {
         sound = keeps-next keeps s e (k .sound) (m .count);
-        fixed = fixed-kept x s′ (done s′ (e .lengths) (e .made) .0) (done-kept s′ (e .lengths) (e .made)) (z .fixed);
+        fixed = fixed-next x s e (k .fixed);
         projected = projected-done x s′ (z .sound) (z .fixed) a (z .projected) (e .lengths) (e .made);
       }
 

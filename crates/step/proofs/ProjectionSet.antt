@@ -24,7 +24,8 @@ use Rattle.step.specs.Lists.{loose, planAt, tagAt}
 use Rattle.step.specs.Alone.{Course, Course.isOpen, Alones, putAt}
 use Rattle.step.specs.Demand3.{Alike, IsAlone, Projected}
 use Rattle.step.proofs.AloneTags.{row-of-its-tag}
-use Rattle.step.proofs.ProjectionHost.{in-pool}
+use Rattle.step.proofs.Places.{by-place}
+use Rattle.step.proofs.Buffers.{in-pool}
 
 -- ---- a function with another value in one place
 
@@ -55,11 +56,8 @@ module _ (s s′ : State) (j b : ℕ) (new : Row) (bytes : List ℕ) (ch : Chang
 
   -- the new row at its place, and every other as it was
   pub by-row : j < length (s .rows) → (P : ℕ → Row → Type 0) → P j new → ((r : ℕ) → r ≢ j → P r (rowAt s r)) → (r : ℕ) → P r (rowAt s′ r)
-  by-row lt P here other r = by-case (ℕ-discrete r j)
-    where
-      by-case : Dec (r ≡ j) → P r (rowAt s′ r)
-      by-case (yes e) = subst (λ (k : ℕ). P k (rowAt s′ k)) (sym e) (subst (P j) (sym (row-here lt)) here)
-      by-case (no n) = subst (P r) (sym (row-there r n)) (other r n)
+  unfolding rowAt
+  by-row lt P here other r = subst (λ (l : List Row). P r (getD l r (freed 0))) (sym (ch .rows)) (by-place (s .rows) j new (freed 0) lt P here other r)
 
   bytes-after : (k : ℕ) → bytesAt s′ k ≡ stretch (s .settings .capacity) k (withStretch (s .settings .capacity) b bytes (s .pool))
   unfolding bytesAt
@@ -67,11 +65,11 @@ module _ (s s′ : State) (j b : ℕ) (new : Row) (bytes : List ℕ) (ch : Chang
 
   module _ (i : Sound s) (lt : b < s .settings .buffers) (long : length bytes ≡ s .settings .capacity) where
     pub bytes-here : bytesAt s′ b ≡ bytes
-    bytes-here = bytes-after b ∙ turn-laws .stretch-filled (s .settings .capacity) b bytes (s .pool) (in-pool s i b lt) long
+    bytes-here = bytes-after b ∙ turn-laws .stretch-filled (s .settings .capacity) b bytes (s .pool) (in-pool s i b lt (s .pool) (i .pool)) long
 
     pub bytes-there : (k : ℕ) → k ≢ b → bytesAt s′ k ≡ bytesAt s k
     unfolding bytesAt
-    bytes-there k n = bytes-after k ∙ turn-laws .stretch-other (s .settings .capacity) b k bytes (s .pool) (in-pool s i b lt) long n
+    bytes-there k n = bytes-after k ∙ turn-laws .stretch-other (s .settings .capacity) b k bytes (s .pool) (in-pool s i b lt (s .pool) (i .pool)) long n
 
   pub plan-after : (x : Row) → planAt s′ x ≡ planAt s x
   unfolding planAt regionAt

@@ -20,11 +20,12 @@ use Rattle.step.specs.Lists.{brought, isAway, Completed, HostMay}
 use Rattle.step.specs.Alone.{Course, Course.isOpen, Course.completed, Course.wasRefused, Alones, onward, aloneFate, feeds, heard, aloneNext}
 use Rattle.step.specs.Demand3.{Start, plansOf, StepsAlone}
 use Rattle.step.proofs.AloneTags.{clash, names-live}
-use Rattle.step.proofs.AloneRules.{Told}
+use Rattle.step.proofs.Buffers.{bytes-length}
+use Rattle.step.proofs.Fates.{Fitting, FateFits, fate-fits}
 use Rattle.step.proofs.ListsBrought.{Brings, brings}
 use Rattle.step.proofs.ProjectionHost.{live-in-table}
 use Rattle.step.proofs.ProjectionSet.{put-here, bytes-here}
-use Rattle.step.proofs.ProjectionFed.{met, long, fate-told}
+use Rattle.step.proofs.ProjectionFed.{met}
 use Rattle.step.proofs.ProjectionReached.{Reached, nextAlone, reached-left}
 
 -- ---- what becomes of the row that a tag names, beside its operation alone
@@ -56,16 +57,16 @@ module _ (s : State) (t : ℕ) (r : Row) (own : List ℕ) where
   refused-ready (rejected f b bytes) e = append-nil (s .ready)
 
 -- its buffer is as completed
-completes-bytes : (x : Start) (s : State) (a : Alones) → Reached x s a → (t : ℕ) → names (rowAt s (rowOf t)) t ≡ true → (own : List ℕ) (f : Fate) → Told (rowAt s (rowOf t) .awaits) (bytesAt s (rowAt s (rowOf t) .buffer)) f
+completes-bytes : (x : Start) (s : State) (a : Alones) → Reached x s a → (t : ℕ) → names (rowAt s (rowOf t)) t ≡ true → (own : List ℕ) (f : Fate) → FateFits s (rowAt s (rowOf t)) f
     → (c : Completed) → onward (rowAt s (rowOf t)) own f ≡ completed c → bytesAt (settled s t (rowAt s (rowOf t)) f .0) (rowAt s (rowOf t) .buffer) ≡ c .1
-unfolding onward settled freeing Told
+unfolding onward settled freeing Fitting
 completes-bytes x s a k t named own (away f) z c e = clash (cc)
 completes-bytes x s a k t named own (awaits w bytes) z c e = clash (cc)
 completes-bytes x s a k t named own (ends o b bytes cause) z c e =
     let row = rowAt s (rowOf t) in
     let got : (completionOf row o b, bytes) ≡ c = cc in
     bytes-here s (settled s t row (ends o b bytes cause) .0) (rowOf t) (row .buffer) (freed (raised (row .generation))) bytes (record { settings = refl; regions = refl; rows = refl; pool = refl }) (k .sound)
-    (live-in-table s (k .sound) (rowOf t) (names-live row t named) .buffer) (z ∙ long x s (k .sound) (k .fixed) a (k .projected) t named)
+    (live-in-table s (k .sound) (rowOf t) (names-live row t named) .buffer) (z .1 ∙ bytes-length s (k .sound) (row .buffer) (live-in-table s (k .sound) (rowOf t) (names-live row t named) .buffer))
     ∙ ap (λ (y : Completed). y .1) got
 completes-bytes x s a k t named own (rejected f b bytes) z c e = clash (cc)
 
@@ -140,11 +141,9 @@ module _ (x : Start) (s : State) (a : Alones) (k : Reached x s a) (e : Event) (w
         bytes-is : {b c : List ℕ} → some (isOpen row b) ≡ some (isOpen r c) → b ≡ c
         bytes-is same = cc
 
-    pub told-is : Told (r .awaits) (bytesAt s₁ (r .buffer)) fate
+    pub fits-is : FateFits s₁ r fate
     unfolding rowAt leave
-    told-is =
-        subst (λ (y : Row). Told (y .awaits) (bytesAt s₁ (y .buffer)) fate) row-is
-        (subst (Told (row .awaits) (bytesAt s₁ (row .buffer))) fate-is (fate-told x s₁ (k₁ .sound) (k₁ .fixed) a (k₁ .projected) t named i))
+    fits-is = subst (λ (y : Row). FateFits s₁ y fate) row-is (subst (FateFits s₁ row) fate-is (fate-fits s₁ row i))
 
     pub met-is : sameLengths ≡ true → done s₁ (e .lengths) (e .made) ≡ settled s₁ t r fate
     unfolding underTag pick rowAt leave
@@ -188,4 +187,4 @@ module _ (x : Start) (s : State) (a : Alones) (k : Reached x s a) (e : Event) (w
       held : (r : Row) (bytes : List ℕ) (op : a .ops t ≡ some (isOpen r bytes)) (c : Completed) → onward r bytes (fate r bytes op) ≡ completed c → bytesAt (settled s₁ t r (fate r bytes op) .0) (r .buffer) ≡ c .1
       held r bytes op c z =
           subst (λ (y : Row). onward y bytes (fate r bytes op) ≡ completed c → bytesAt (settled s₁ t y (fate r bytes op) .0) (y .buffer) ≡ c .1) (row-is r bytes op)
-          (unfold rowAt leave in completes-bytes x s₁ a k₁ t (named r bytes op) bytes (fate r bytes op) (subst (Told (row .awaits) (bytesAt s₁ (row .buffer))) (fate-is r bytes op) (fate-told x s₁ (k₁ .sound) (k₁ .fixed) a (k₁ .projected) t (named r bytes op) i)) c) z
+          (unfold rowAt leave in completes-bytes x s₁ a k₁ t (named r bytes op) bytes (fate r bytes op) (subst (FateFits s₁ row) (fate-is r bytes op) (fate-fits s₁ row i)) c) z

@@ -24,10 +24,11 @@ use Rattle.step.specs.Lists.{tookBy, addedBy, added, takings}
 use Rattle.step.specs.Alone.{Alones}
 use Rattle.step.specs.Demand3.{Start, Fits, AllDone}
 use Rattle.step.proofs.Counts.{live-set}
-use Rattle.step.proofs.AloneTags.{live-awaiting, dead-awaiting, freed-dead, live-in, names-live}
+use Rattle.step.proofs.Named.{live-one}
+use Rattle.step.proofs.AloneTags.{dead-awaiting, freed-dead, live-in, names-live}
 use Rattle.step.proofs.ProjectionReached.{Reached, nextAlone}
 use Rattle.step.proofs.ListsCame.{Came, Came.turned, Came.silent, Came.took, Came.goes, Came.finishes}
-use Rattle.step.proofs.ListsRows.{goes-told}
+use Rattle.step.proofs.ListsRows.{goes-on-with}
 use Rattle.step.proofs.ListsWalk.{came-next, reached, behind}
 
 -- ---- one call
@@ -55,7 +56,7 @@ queued-same s r e = rw (drop-length (s .ready), e) (append-nil (s .ready))
 -- a row is replaced in place of a live one
 counted-row : (s : State) (r : ℕ) (new : Row) → isLive (rowAt s r .awaits) ≡ true → liveRows (set (s .rows) r new) + 1 ≡ liveRows (s .rows) + awaiting (new .awaits)
 unfolding rowAt
-counted-row s r new live = omega (arith, live-set (s .rows) r new (freed 0) (live-in s r live), live-awaiting (rowAt s r .awaits) live)
+counted-row s r new live = omega (arith, live-set (s .rows) r new (freed 0) (live-in s r live), live-one (rowAt s r .awaits) live)
 
 asks-takes-none : (g : Plan) (t b : ℕ) (a : Awaits) → tookBy (asksFor g t b a) ≡ []
 unfolding asksFor tookBy
@@ -72,7 +73,7 @@ module _ (s : State) (l : Lengths) (m : Made) where
   counted (goes t i br named a bytes q d) =
       let row = rowAt s (rowOf t) in
       subst (λ (y : State × Reply). Counted s (y .0)) (sym d)
-      (omega (arith, none-behind s, counted-row s (rowOf t) (awaitsNow row a) (names-live row t named), live-awaiting a (goes-told s row i a bytes q .live)))
+      (omega (arith, none-behind s, counted-row s (rowOf t) (awaitsNow row a) (names-live row t named), goes-on-with s row i a bytes q .live))
   counted (finishes t i br named o b bytes q d) =
       let row = rowAt s (rowOf t) in
       subst (λ (y : State × Reply). Counted s (y .0)) (sym d)

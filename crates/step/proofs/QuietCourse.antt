@@ -15,30 +15,27 @@ use Rattle.layout.specs.Pick.{pick}
 use Rattle.layout.proofs.Tests.{not-both, true-or-false}
 use Rattle.iobuf.specs.Turn.{stretch}
 use Rattle.domain.specs.declared.Poisoned.{Poisoned}
-use Rattle.domain.specs.declared.OsError.{OsError}
-use Rattle.completion.specs.declared.Buffer.{Buffer}
 use Rattle.completion.specs.declared.Reply.{Reply}
-use Rattle.model.specs.declared.Awaits.{Awaits}
-use Rattle.model.specs.declared.Awaits.the-variants.{Nothing, Piece, Flush}
 use Rattle.model.specs.declared.Row.{Row}
-use Rattle.model.specs.declared.Call.the-variants.{Write, ReadPage, Answer, Flushed, Take, SetGate, SetReadOnly, SetForced, ReportPoison}
 use Rattle.model.specs.State.{State}
 use Rattle.model.specs.Opening.{Plan}
 use Rattle.model.specs.Memory.{planIn}
 use Rattle.step.specs.Questions.{regionAt}
 use Rattle.step.specs.Rules.{Input, Fate, Fate.away, Fate.awaits, Fate.ends, Fate.rejected, rules}
-use Rattle.step.specs.Step.{rowAt, rowOf, bytesAt, planOf, asksFor, rejection, settled, eqLengths}
-use Rattle.step.specs.Laws.{Made, Made.calls, Made.looks, Event, leave, replyTo}
-use Rattle.step.specs.Lists.{broughtBy, brought, isAway, loose, planAt, leftIn, Given, givenAs, givenBy, HostMay}
+use Rattle.step.specs.Step.{rowAt, rowOf, bytesAt, planOf, settled, eqLengths}
+use Rattle.step.specs.Laws.{Made, Event, leave, replyTo}
+use Rattle.step.specs.Lists.{brought, isAway, loose, planAt, leftIn, Given, givenAs, givenBy, HostMay}
 use Rattle.step.specs.Alone.{Course, Course.isOpen, Course.completed, Course.wasRefused, Alones, withLeft, onward, aloneFate, feeds, heardCall, heard, aloneNext}
-use Rattle.step.specs.Demand3.{Start, plansOf, listedCall, isListed}
+use Rattle.step.specs.Demand3.{Start, plansOf, isListed}
 use Rattle.step.proofs.AloneTags.{clash}
-use Rattle.step.proofs.AloneRules.{isPieceOf, Told}
-use Rattle.step.proofs.ProjectionFixed.{either-way}
+use Rattle.step.proofs.ListsBrought.{Listed, Listed.brings-to, Listed.takes, Listed.looks-up, listed-is}
+use Rattle.step.proofs.Picked.{by-pick}
+use Rattle.step.proofs.Fates.{Fitting, FateFits}
+use Rattle.step.proofs.Away.{asks, rejects}
 use Rattle.step.proofs.ProjectionSet.{put-there}
 use Rattle.step.proofs.ProjectionFed.{feeds-none}
 use Rattle.step.proofs.ProjectionReached.{Reached, nextAlone, reached-left}
-use Rattle.step.proofs.ProjectionSteps.{alone-to, other-length, fate, told-is, met-is, course-is, course-other, row-is}
+use Rattle.step.proofs.ProjectionSteps.{alone-to, other-length, fate, fits-is, met-is, course-is, course-other, row-is}
 
 -- ---- the course by what is given
 
@@ -66,24 +63,12 @@ left-enough n left bytes = ap (λ (l : List ℕ). l ++ drop n bytes) (take-take 
 
 -- ---- an answer that is turned away leaves its operation as it is
 
-asks-heard : (g : Plan) (t b : ℕ) (a : Awaits) → isAway (asksFor g t b a) ≡ false
-unfolding asksFor isAway
-asks-heard g t b Nothing = refl
-asks-heard g t b (Piece k s) = refl
-asks-heard g t b (Flush ticket) = refl
-
-pub rejection-heard : (g : Plan) (a : Awaits) (e : OsError) (b : Buffer) → isPieceOf a ≡ true → isAway (rejection g a e b) ≡ false
-unfolding rejection isAway isPieceOf
-rejection-heard g Nothing e b p = absurd (not-both p refl)
-rejection-heard g (Piece k s) e b p = refl
-rejection-heard g (Flush t) e b p = absurd (not-both p refl)
-
-settled-away : (s : State) (t : ℕ) (r : Row) (own bytes : List ℕ) (f : Fate) → Told (r .awaits) bytes f → isAway (settled s t r f .1) ≡ true → onward r own f ≡ isOpen r own
-unfolding settled onward isAway Told
-settled-away s t r own bytes (away f) z e = refl
-settled-away s t r own bytes (awaits a b) z e = absurd (not-both e (asks-heard (planOf (regionAt s (r .handle))) t (r .buffer) a))
-settled-away s t r own bytes (ends o b bs cause) z e = absurd (not-both e refl)
-settled-away s t r own bytes (rejected f b bs) z e = absurd (not-both e (rejection-heard (planOf (regionAt s (r .handle))) (r .awaits) f b (z .0)))
+settled-away : (s : State) (t : ℕ) (r : Row) (own : List ℕ) (f : Fate) → FateFits s r f → isAway (settled s t r f .1) ≡ true → onward r own f ≡ isOpen r own
+unfolding settled onward isAway Fitting
+settled-away s t r own (away f) z e = refl
+settled-away s t r own (awaits a b) z e = absurd (not-both e (asks (planOf (regionAt s (r .handle))) t (r .buffer) a))
+settled-away s t r own (ends o b bs cause) z e = absurd (not-both e refl)
+settled-away s t r own (rejected f b bs) z e = absurd (not-both e (rejects (planOf (regionAt s (r .handle))) (r .awaits) f b (z .0)))
 
 -- ---- an event that brings nothing to the operation under a tag leaves it as it is
 
@@ -107,44 +92,31 @@ unfolding pick
 kept-out true y e = clash (cc)
 kept-out false y e = refl
 
-module _ (x : Start) (a : Alones) (pool : List ℕ) (reply : Reply) where
-  abbrev heardBy : Made → Alones
-  heardBy m = heard (x .opening) (plansOf x) (x .lengths) a pool m reply
+module _ (x : Start) (a : Alones) (pool : List ℕ) (reply : Reply) (m : Made) where
+  abbrev heardBy : Alones
+  heardBy = heard (x .opening) (plansOf x) (x .lengths) a pool m reply
 
-  heard-other : (m : Made) (t : ℕ) → isListed m ≡ true → brought t m ≡ none → heardBy m .ops t ≡ a .ops t
-  unfolding heard heardCall isListed listedCall brought broughtBy
-  heard-other (calls (Write q)) t l b = clash (cc)
-  heard-other (calls (ReadPage q)) t l b = clash (cc)
-  heard-other (calls (Answer u y back flushes)) t l b = feeds-other x a pool u t _ (a .ops u) (eqb-false u t (kept-out (eqb u t) _ b))
-  heard-other (calls (Flushed u result)) t l b = feeds-other x a pool u t _ (a .ops u) (eqb-false u t (kept-out (eqb u t) _ b))
-  heard-other (calls Take) t l b = refl
-  heard-other (calls (SetGate h y)) t l b = clash (cc)
-  heard-other (calls (SetReadOnly h y)) t l b = clash (cc)
-  heard-other (calls (SetForced h y)) t l b = clash (cc)
-  heard-other (calls (ReportPoison cause)) t l b = clash (cc)
-  heard-other (looks y) t l b = refl
+  heard-other : (t : ℕ) → Listed m → brought t m ≡ none → heardBy .ops t ≡ a .ops t
+  unfolding heard heardCall
+  heard-other t (brings-to u i br) q =
+      ap (λ (y : Alones). y .ops t) (br .heard-is x a pool reply) ∙ feeds-other x a pool u t i (a .ops u) (eqb-false u t (kept-out (eqb u t) i (sym (br .under t) ∙ q)))
+  heard-other t (takes e) q = ap (λ (n : Made). heard (x .opening) (plansOf x) (x .lengths) a pool n reply .ops t) e
+  heard-other t (looks-up y e) q = ap (λ (n : Made). heard (x .opening) (plansOf x) (x .lengths) a pool n reply .ops t) e
 
-  heard-forced : (m : Made) → isListed m ≡ true → heardBy m .forced ≡ a .forced
-  unfolding heard heardCall isListed listedCall
-  heard-forced (calls (Write q)) l = clash (cc)
-  heard-forced (calls (ReadPage q)) l = clash (cc)
-  heard-forced (calls (Answer u y back flushes)) l = feeds-forced x a pool u _ (a .ops u)
-  heard-forced (calls (Flushed u result)) l = feeds-forced x a pool u _ (a .ops u)
-  heard-forced (calls Take) l = refl
-  heard-forced (calls (SetGate h y)) l = clash (cc)
-  heard-forced (calls (SetReadOnly h y)) l = clash (cc)
-  heard-forced (calls (SetForced h y)) l = clash (cc)
-  heard-forced (calls (ReportPoison cause)) l = clash (cc)
-  heard-forced (looks y) l = refl
+  heard-forced : Listed m → heardBy .forced ≡ a .forced
+  unfolding heard heardCall
+  heard-forced (brings-to u i br) = ap (λ (y : Alones). y .forced) (br .heard-is x a pool reply) ∙ feeds-forced x a pool u i (a .ops u)
+  heard-forced (takes e) = ap (λ (n : Made). heard (x .opening) (plansOf x) (x .lengths) a pool n reply .forced) e
+  heard-forced (looks-up y e) = ap (λ (n : Made). heard (x .opening) (plansOf x) (x .lengths) a pool n reply .forced) e
 
 module _ (x : Start) (s : State) (a : Alones) (e : Event) (l : isListed (e .made) ≡ true) where
   pub next-other : (t : ℕ) → brought t (e .made) ≡ none → nextAlone x s a e .ops t ≡ a .ops t
   unfolding aloneNext
-  next-other t b = either-way (λ (y : Alones). y .ops t ≡ a .ops t) (eqLengths (e .lengths) (x .lengths)) _ a (heard-other x a (e .leaves) (replyTo s e) (e .made) t l b) refl
+  next-other t b = by-pick (eqLengths (e .lengths) (x .lengths)) (λ (y : Alones). y .ops t ≡ a .ops t) (λ same. heard-other x a (e .leaves) (replyTo s e) (e .made) t (listed-is (e .made) l) b) (λ other. refl)
 
   pub next-forced : nextAlone x s a e .forced ≡ a .forced
   unfolding aloneNext
-  next-forced = either-way (λ (y : Alones). y .forced ≡ a .forced) (eqLengths (e .lengths) (x .lengths)) _ a (heard-forced x a (e .leaves) (replyTo s e) (e .made) l) refl
+  next-forced = by-pick (eqLengths (e .lengths) (x .lengths)) (λ (y : Alones). y .forced ≡ a .forced) (λ same. heard-forced x a (e .leaves) (replyTo s e) (e .made) (listed-is (e .made) l)) (λ other. refl)
 
 -- ---- one event
 
@@ -191,7 +163,7 @@ module _ (x : Start) (s : State) (a : Alones) (k : Reached x s a) (e : Event) (w
           by-lengths : (same ≡ true) ⊎ (same ≡ false) → nextAlone x s a e .ops t ≡ some (isOpen r bytes)
           by-lengths (inl q) =
               course-is x s a k e w t i bt r bytes op q
-              ∙ ap some (settled-away s₁ t r bytes (bytesAt s₁ (r .buffer)) f (told-is x s a k e w t i bt r bytes op) (ap (λ (y : State × Reply). isAway (y .1)) (sym (met-is x s a k e w t i bt r bytes op q)) ∙ gone))
+              ∙ ap some (settled-away s₁ t r bytes f (fits-is x s a k e w t i bt r bytes op) (ap (λ (y : State × Reply). isAway (y .1)) (sym (met-is x s a k e w t i bt r bytes op q)) ∙ gone))
           by-lengths (inr q) = course-other x s a k e w t i bt r bytes op q
 
       -- what is left in the piece is all that is read of the pool
@@ -221,8 +193,8 @@ module _ (x : Start) (s : State) (a : Alones) (k : Reached x s a) (e : Event) (w
         by-reply : (b : Bool) → isAway (replyTo s e) ≡ b → Comes (isOpen r bytes) (pick b [] ((i, left) ∷ []))
         by-reply true q = away-course r bytes op q
         by-reply false q = heard-course r bytes op q
-    brought-course (completed c) op = either-way (Comes (completed c)) (isAway (replyTo s e)) [] ((i, left) ∷ []) (shut (completed c) (λ r bytes z. clash (cc)) op) (shut (completed c) (λ r bytes z. clash (cc)) op)
-    brought-course wasRefused op = either-way (Comes wasRefused) (isAway (replyTo s e)) [] ((i, left) ∷ []) (shut wasRefused (λ r bytes z. clash (cc)) op) (shut wasRefused (λ r bytes z. clash (cc)) op)
+    brought-course (completed c) op = let z = shut (completed c) (λ r bytes z. clash (cc)) op in by-pick (isAway (replyTo s e)) (Comes (completed c)) (λ q. z) (λ q. z)
+    brought-course wasRefused op = let z = shut wasRefused (λ r bytes z. clash (cc)) op in by-pick (isAway (replyTo s e)) (Comes wasRefused) (λ q. z) (λ q. z)
 
   pub course-next : (c : Course) → a .ops t ≡ some c → Comes c (givenBy s e t)
   unfolding givenBy givenAs courseBy

@@ -1,6 +1,6 @@
 -- An operation alone through one of demand 3's lists: its course follows from what it is given, it is never refused, and its completion, once, is what it gets
 -- from the table.
-use mathlib.Core.Path.{_≡_, refl, sym, ap, _∙_, subst}
+use mathlib.Core.Path.{_≡_, refl, sym, ap, _∙_}
 use mathlib.Core.Logic.{_≢_, _⊎_, inl, inr}
 use mathlib.Core.Bool.{Bool, true, false}
 use mathlib.Core.Option.{Option, none, some}
@@ -15,14 +15,14 @@ use Rattle.completion.specs.declared.Completion.{Completion}
 use Rattle.model.specs.declared.Row.{Row}
 use Rattle.model.specs.State.{State}
 use Rattle.step.specs.Rules.{Input, Fate, Fate.away, Fate.awaits, Fate.ends, Fate.rejected}
-use Rattle.step.specs.Step.{rowAt, rowOf, bytesAt, awaitsNow, settled, eqLengths}
-use Rattle.step.specs.Laws.{Event, leave, done, next}
-use Rattle.step.specs.Lists.{brought, isAway, HostMay, isBrought, Given, givenBy, given, Completed, withBytes, addedBy, gets}
+use Rattle.step.specs.Step.{rowAt, bytesAt, awaitsNow, settled, eqLengths}
+use Rattle.step.specs.Laws.{Event, leave, next}
+use Rattle.step.specs.Lists.{brought, HostMay, isBrought, Given, givenBy, given, Completed, withBytes, addedBy, gets}
 use Rattle.step.specs.Alone.{Course, Course.isOpen, Course.completed, Course.wasRefused, Alones, onward, alones}
-use Rattle.step.specs.Demand3.{Start, FairTo, Fits, StepsAlone}
+use Rattle.step.specs.Demand3.{Start, Fits, StepsAlone}
 use Rattle.step.proofs.AloneTags.{clash}
 use Rattle.step.proofs.ListsBrought.{Brings, brings}
-use Rattle.step.proofs.ListsCame.{not-rejected}
+use Rattle.step.proofs.ListsCame.{not-rejected, fair-under}
 use Rattle.step.proofs.ListsRows.{same-poison}
 use Rattle.step.proofs.ListsWalk.{host-may, listed, behind, fair-next, came-next, reached}
 use Rattle.step.proofs.ProjectionReached.{Reached, nextAlone, runAlone, reached-left}
@@ -87,11 +87,6 @@ module _ (x : Start) (s : State) (a : Alones) (k : Reached x s a) (e : Event) (e
     br : Brings (e .made) t i
     br = brings (e .made) t i bt
 
-    fair : isAway (done s₁ (e .lengths) (e .made) .1) ≡ false → FairTo s₁ (rowAt s₁ (rowOf t)) (rowAt s₁ (rowOf t) .awaits) i
-    fair h =
-        subst (λ (u : ℕ). FairTo s₁ (rowAt s₁ (rowOf u)) (rowAt s₁ (rowOf u) .awaits) i) (br .tag)
-        (fair-next x s a k e es f i (ap (λ (u : ℕ). brought u (e .made)) (br .tag) ∙ bt) h)
-
     -- an open operation is not refused
     module _ (r : Row) (bytes : List ℕ) (op : a .ops t ≡ some (isOpen r bytes)) where
       by-fate : eqLengths (e .lengths) (x .lengths) ≡ true → (g : Fate) → fate x s a k e w t i bt r bytes op ≡ g → onward r bytes g ≡ wasRefused → ⊥
@@ -100,7 +95,7 @@ module _ (x : Start) (s : State) (a : Alones) (k : Reached x s a) (e : Event) (e
       by-fate q (awaits v bs) z c = clash (cc)
       by-fate q (ends o b bs cause) z c = clash (cc)
       by-fate q (rejected u b bs) z c =
-          not-rejected s₁ (reached-left x s a k (e .leaves) w .sound) (e .lengths) (e .made) t i br (named x s a k e w t i bt r bytes op) fair u b bs (fate-is x s a k e w t i bt r bytes op ∙ z)
+          not-rejected s₁ (reached-left x s a k (e .leaves) w .sound) (e .lengths) (e .made) t i br (named x s a k e w t i bt r bytes op) (fair-under s₁ (e .lengths) (e .made) t i br (fair-next x s a k e es f)) u b bs (fate-is x s a k e w t i bt r bytes op ∙ z)
           (met-is x s a k e w t i bt r bytes op q ∙ (λ j. settled s₁ t (sym (row-is x s a k e w t i bt r bytes op) j) (z j)))
 
       not-refused : nextAlone x s a e .ops t ≡ some wasRefused → ⊥
@@ -130,24 +125,26 @@ module _ (x : Start) (s : State) (a : Alones) (k : Reached x s a) (e : Event) (e
         ∙ ap (λ (bs : List ℕ). (c .0, bs) ∷ []) (ap (bytesAt (next s e)) (sym buf) ∙ z .1)
     adds-open r bytes b op buf wasRefused q = adds-none b (st .refused r bytes op q)
 
-    -- one that is not: nothing
-    adds-shut : (c : Course) → a .ops t ≡ some c → ((r : Row) (bytes : List ℕ) → c ≡ isOpen r bytes → ⊥) → (b : ℕ) → adds s e b ≡ []
-    unfolding leave
-    adds-shut c op n b = adds-none b (ap (λ (y : State). y .ready) (st .none-open (λ r bytes z. n r bytes (let y = sym op ∙ z in cc)) .1))
+    -- one that is not: it stays, and nothing is added
+    module _ (c : Course) (n : (r : Row) (bytes : List ℕ) → c ≡ isOpen r bytes → ⊥) (op : a .ops t ≡ some c) where
+      shut-same : (c′ : Course) → nextAlone x s a e .ops t ≡ some c′ → c ≡ c′
+      shut-same c′ q = let z = sym (shut x s a k e w (listed x s a k e es f) t i bt c n op) ∙ q in cc
+
+      adds-shut : (b : ℕ) (c′ : Course) → nextAlone x s a e .ops t ≡ some c′ → doneOf c ++ adds s e b ≡ doneOf c′
+      unfolding leave
+      adds-shut b c′ q =
+          ap (λ (cs : List Completed). doneOf c ++ cs) (adds-none b (ap (λ (y : State). y .ready) (st .none-open (λ r bytes z. n r bytes (let y = sym op ∙ z in cc)) .1)))
+          ∙ append-nil (doneOf c) ∙ ap doneOf (shut-same c′ q)
 
     adds-more : (c : Course) → a .ops t ≡ some c → (b : ℕ) → InBuffer b c → (c′ : Course) → nextAlone x s a e .ops t ≡ some c′ → doneOf c ++ adds s e b ≡ doneOf c′
     unfolding doneOf InBuffer
     adds-more (isOpen r bytes) op b buf c′ q = adds-open r bytes b op buf c′ q
-    adds-more (completed c) op b buf c′ q =
-        let same : completed c ≡ c′ = let z = sym (shut x s a k e w (listed x s a k e es f) t i bt (completed c) (λ r bytes z. clash (cc)) op) ∙ q in cc in
-        ap (λ (cs : List Completed). c ∷ cs) (adds-shut (completed c) op (λ r bytes z. clash (cc)) b) ∙ ap doneOf same
-    adds-more wasRefused op b buf c′ q =
-        let same : wasRefused ≡ c′ = let z = sym (shut x s a k e w (listed x s a k e es f) t i bt wasRefused (λ r bytes z. clash (cc)) op) ∙ q in cc in
-        adds-shut wasRefused op (λ r bytes z. clash (cc)) b ∙ ap doneOf same
+    adds-more (completed c) op b buf c′ q = adds-shut (completed c) (λ r bytes z. clash (cc)) op b c′ q
+    adds-more wasRefused op b buf c′ q = adds-shut wasRefused (λ r bytes z. clash (cc)) op b c′ q
 
     kept-on : (c : Course) → a .ops t ≡ some c → c ≢ wasRefused → nextAlone x s a e .ops t ≢ some wasRefused
     kept-on (isOpen r bytes) op n q = not-refused r bytes op q
-    kept-on (completed c) op n q = clash (let z = sym (shut x s a k e w (listed x s a k e es f) t i bt (completed c) (λ r bytes z. clash (cc)) op) ∙ q in cc)
+    kept-on (completed c) op n q = n (shut-same (completed c) (λ r bytes z. clash (cc)) op wasRefused q)
     kept-on wasRefused op n q = absurd (n refl)
 
   -- whatever the event brings
