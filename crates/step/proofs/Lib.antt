@@ -44,3 +44,4 @@ pub mod QuietLists
 pub mod CardBytes
 pub mod CardLists
 pub mod Demand3
+pub mod Demand3Example
