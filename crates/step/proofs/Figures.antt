@@ -8,18 +8,26 @@ use Rattle.completion.specs.Numbers.{number, values, contextValues}
 use Rattle.model.specs.State.{freed, upFrom}
 use Rattle.model.specs.Opening.{among, distinct, idsRule, runsOnBlock, blocksRule, mapRule, regionRule, eachRegion, allExtents, apartRule, withinRule}
 use Rattle.model.specs.Opening.{allTrue, numberRules, lengthRules, regionRules, admits, atFirst, opened}
-use Rattle.model.specs.Memory.{planIn, plansIn, listed, opens}
+use Rattle.model.specs.Memory.{planIn, plansIn, listed, opens, receiptFor}
 use Rattle.step.specs.Questions.{rangeFrom, ask, firstNo, handleNamesRegion, bufferInPool, isHost, heldAt, hostHoldsBuffer, roomInTable, lifetimeLeft, gateOpen, storeWritable, unpoisoned}
 use Rattle.step.specs.Questions.{regionWritable, volumeAndRegionMatch, generationMatches, lengthAbove0, writeOnBlock, readOnBlock, aligned, withinData, regionAt}
 use Rattle.step.specs.Questions.{writeQuestions, readQuestions}
-use Rattle.step.specs.Rules.{pieceOf}
+use Rattle.step.specs.Rules.{opOf, firstOf, lastOf, rangeOf, pieceOf, pieceLength, bufferAs, errorOf, turnedBack, isWritten, causeOf, failedRead, readOutcome, readLength, ticketOf, unflushed, writtenAs, lastPiece}
+use Rattle.step.specs.Rules.{abovePiece, isRefusal, firstRefused, isWhole, goesOn, splitAfter, pieceAnswered, flushOutcome, flushEnds, answerRules, flushRules, rules}
+use Rattle.step.specs.Step.{durableAs, claimedBy, oneMore, accepted, rowOf, generationOf, isLive, names, bytesAt, raised, awaitsNow, oneLess, keptBy, poisonWith, going, freeing, planOf, asksFor}
+use Rattle.step.specs.Step.{completionOf, rejection, settled, fateOf, underTag, givenBack, taken, withRegions, marked, withForced}
 use Rattle.step.specs.Step.{queueTag, topOf, rowAt, verdictOf, writeVerdict, readVerdict, submitted, eqLengths, called, step}
 use Rattle.step.specs.Laws.{issuedUpTo}
-use Rattle.step.specs.Figures.{figuresOpening, figuresPlan, figuresLengths, figuresTable, asking, replyTo, numberOf, valuesOf, Figures}
+use Rattle.step.specs.Figures.{figuresOpening, figuresPlan, figuresLengths, figuresTable, asking, replyAfter, tableAfter, numberOf, valuesOf, durably, inBuffer, rangeThere, byWrite, lastGeneration, generationAfter, receiptSynced, synced, Figures}
+use Rattle.step.specs.Figures as table
 
 pub figures : Figures
-unfolding figuresOpening figuresPlan figuresLengths figuresTable asking replyTo numberOf number valuesOf values contextValues rangeFrom issuedUpTo
-    pieceOf queueTag topOf rowAt verdictOf writeVerdict readVerdict submitted eqLengths called step
+unfolding figuresOpening figuresPlan figuresLengths figuresTable asking replyAfter tableAfter durably inBuffer rangeThere byWrite lastGeneration generationAfter receiptSynced synced table.ticketOf numberOf number valuesOf values contextValues rangeFrom issuedUpTo
+    opOf firstOf lastOf rangeOf pieceOf pieceLength bufferAs errorOf turnedBack isWritten causeOf failedRead readOutcome readLength ticketOf unflushed writtenAs lastPiece
+    abovePiece isRefusal firstRefused isWhole goesOn splitAfter pieceAnswered flushOutcome flushEnds answerRules flushRules rules receiptFor
+    durableAs claimedBy oneMore accepted rowOf generationOf isLive names bytesAt raised awaitsNow oneLess keptBy poisonWith going freeing planOf asksFor
+    completionOf rejection settled fateOf underTag givenBack taken withRegions marked withForced
+    queueTag topOf rowAt verdictOf writeVerdict readVerdict submitted eqLengths called step
     ask firstNo handleNamesRegion bufferInPool isHost heldAt hostHoldsBuffer roomInTable lifetimeLeft gateOpen storeWritable unpoisoned
     regionWritable volumeAndRegionMatch generationMatches lengthAbove0 writeOnBlock readOnBlock aligned withinData regionAt writeQuestions readQuestions
     planIn plansIn listed opens allTrue numberRules lengthRules regionRules admits atFirst opened freed upFrom
@@ -38,4 +46,17 @@ figures = record {
   write-256 = refl;
   read-256-values = refl;
   empty = refl;
+  answer-512 = refl;
+  done-then = refl;
+  written = refl;
+  next-tag = refl;
+  live-and-ready = refl;
+  read-612 = refl;
+  write-unknown = refl;
+  poisons = refl;
+  last-generation = refl;
+  not-synced = refl;
+  synced-7 = refl;
+  refused-first = refl;
+  lost-buffer = refl;
 }

@@ -1,4 +1,4 @@
--- Document 01, "Figures": the starred ones of submissions, as one table, of the definitions; those of the answers join it.
+-- Document 01, "Figures": the starred ones, as one table, of the definitions, of tables reached by calls.
 -- "Opening: volume 1, region 7, generation 3, block 512, card 16,384; first offset 1,024, one further run (1,024, 8,192), capacity and data 2,048;
 -- depth 2, three buffers of 2,048, lifetime 1,000, store writable, no flush policy, flush count 0."
 use mathlib.Core.Path.{_≡_}
@@ -9,6 +9,17 @@ use Prim.Native.Nat.{ℕ, _-_, _^_}
 use lib.ListN.{replicate}
 use Rattle.regionmap.specs.declared.FoundPiece.{FoundPiece}
 use Rattle.regionmap.specs.Words.{positionOf, offsetOf}
+use Rattle.domain.specs.declared.Op.the-variants.{Write as writeOp}
+use Rattle.domain.specs.declared.OsError.the-variants.{None as noError}
+use Rattle.domain.specs.declared.FirstCause.{FirstCause}
+use Rattle.platform.specs.declared.Answer.the-variants.{Count, Refused}
+use Rattle.platform.specs.declared.Flushed.the-variants.{Need}
+use Rattle.completion.specs.declared.WriteTicket.{WriteTicket}
+use Rattle.completion.specs.declared.Range.{Range}
+use Rattle.completion.specs.declared.Outcome.{Outcome}
+use Rattle.completion.specs.declared.Outcome.the-variants.{Written, Receipt, Read as readTo, Unknown, Interrupted, Corruption, Io, QueueFull, Poisoned as poisonedBy}
+use Rattle.completion.specs.declared.Buffer.the-variants.{Back}
+use Rattle.completion.specs.declared.Refusal.the-variants.{Poisoned as poisonedNow}
 use Rattle.completion.specs.declared.Reply.{Reply}
 use Rattle.completion.specs.declared.Reply.the-variants.{Piece as piece, No as turnedAway, Rejected, Done, Flush, Took, None, Ok, Writes, Mark}
 use Rattle.completion.specs.Numbers.{number, Values, Values.nothing, Values.range, values}
@@ -16,12 +27,12 @@ use Rattle.model.specs.declared.Opening.{Opening}
 use Rattle.model.specs.declared.Lengths.{Lengths}
 use Rattle.model.specs.declared.Request.{Request}
 use Rattle.model.specs.declared.Call.{Call}
-use Rattle.model.specs.declared.Call.the-variants.{Write, ReadPage}
-use Rattle.model.specs.State.{State}
+use Rattle.model.specs.declared.Call.the-variants.{Write, ReadPage, Answer, Flushed, Take, SetForced}
+use Rattle.model.specs.State.{State, freed}
 use Rattle.model.specs.Opening.{opened}
 use Rattle.model.specs.Memory.{plansIn, opens}
 use Rattle.step.specs.Questions.{regionAt}
-use Rattle.step.specs.Step.{step, begun}
+use Rattle.step.specs.Step.{step, begun, rowAt}
 use Rattle.step.specs.Laws.{issuedUpTo}
 
 unfoldable pub figuresOpening : Opening
@@ -42,8 +53,73 @@ figuresTable = opened figuresOpening (plansIn 1 figuresPlan) figuresLengths (rep
 unfoldable pub asking : ℕ → ℕ → Request
 asking offset length = record { handle = 0; volume = 1; region = 7; generation = 3; offset = positionOf offset; buffer = 0; length = length; durable = false; tag = 70 }
 
-unfoldable pub replyTo : Call → Reply
-replyTo c = step figuresTable figuresLengths c .1
+-- the table after calls, and the reply to one more
+unfoldable pub tableAfter : State → List Call → State
+tableAfter s [] = s
+tableAfter s (c ∷ cs) = tableAfter (step s figuresLengths c .0) cs
+
+unfoldable pub replyAfter : List Call → Call → Reply
+replyAfter cs c = step (tableAfter figuresTable cs) figuresLengths c .1
+
+abbrev pub replyTo : Call → Reply
+replyTo c = replyAfter [] c
+
+-- `a QTAG COUNT`: the buffer is back, the flush count is 0
+abbrev pub answers : ℕ → ℕ → Call
+answers t n = Answer t (Count n) true 0
+
+-- the same request, durable
+unfoldable pub durably : Request → Request
+durably q = record { handle = q .handle; volume = q .volume; region = q .region; generation = q .generation; offset = q .offset; buffer = q .buffer; length = q .length; durable = true; tag = q .tag }
+
+-- the same, of another buffer
+unfoldable pub inBuffer : ℕ → Request → Request
+inBuffer b q = record { handle = q .handle; volume = q .volume; region = q .region; generation = q .generation; offset = q .offset; buffer = b; length = q .length; durable = q .durable; tag = q .tag }
+
+-- the ticket of 512 to 1,536 with a need
+unfoldable pub ticketOf : ℕ → WriteTicket
+ticketOf need = record { volume = 1; region = 7; generation = 3; start = positionOf 512; end = positionOf 1536; need = need; epoch = 0 }
+
+-- its range
+unfoldable pub rangeThere : Range
+rangeThere = record { region = 7; start = positionOf 512; end = positionOf 1536 }
+
+-- the cause write, with no error
+unfoldable pub byWrite : FirstCause
+byWrite = record { op = writeOp; raw = noError }
+
+-- the table of the figures with row 0 at the last generation
+unfoldable pub lastGeneration : State
+lastGeneration =
+    record { settings = figuresTable .settings; lengths = figuresTable .lengths; regions = figuresTable .regions; poison = figuresTable .poison; counts = figuresTable .counts; rows = freed 4294967295 ∷ freed 0 ∷ []; free = figuresTable .free; ready = figuresTable .ready; owners = figuresTable .owners; pool = figuresTable .pool }
+
+-- its row 0
+unfoldable pub generationAfter : List Call → ℕ
+generationAfter cs = rowAt (tableAfter lastGeneration cs) 0 .generation
+
+-- what the receipt of a completion that is taken says of the flush
+unfoldable pub receiptSynced : Outcome → Option Bool
+receiptSynced (Written x) = none
+receiptSynced (Receipt x r) = some (r .synced)
+receiptSynced (readTo n) = none
+receiptSynced (Unknown r c) = none
+receiptSynced (Interrupted r) = none
+receiptSynced (Corruption r) = none
+receiptSynced (Io r o e) = none
+receiptSynced (QueueFull r) = none
+receiptSynced (poisonedBy c) = none
+
+unfoldable pub synced : Reply → Option Bool
+synced (piece t o n b) = none
+synced (turnedAway f) = none
+synced (Rejected g o e b) = none
+synced (Done t) = none
+synced (Flush t n) = none
+synced (Took c) = receiptSynced (c .outcome)
+synced None = none
+synced Ok = none
+synced (Writes w) = none
+synced (Mark m) = none
 
 -- a piece on the card
 abbrev pub found : ℕ → ℕ → FoundPiece
@@ -80,8 +156,14 @@ pub record Figures : Type 0 where
   pub opens-them : opens figuresOpening figuresPlan figuresLengths ≡ true
   -- "*Write 512, length 1,024: tag 0, piece (1,536, 512)."
   pub write-512 : replyTo (Write (asking 512 1024)) ≡ piece 0 (offsetOf 1536) 512 0
-  -- its pieces, as its answers of 512 will bring them: "*Answer 512: piece (8,192, 512)."
   pub two-pieces : issuedUpTo 1024 (regionAt figuresTable 0 .map) 512 (begun 1024) ≡ found 1536 512 ∷ found 8192 512 ∷ []
+  -- "*Answer 512: piece (8,192, 512)."
+  pub answer-512 : replyAfter (Write (asking 512 1024) ∷ []) (answers 0 512) ≡ piece 0 (offsetOf 8192) 512 0
+  -- "*Answer 512: written 512 to 1,536, need 1."
+  pub done-then : replyAfter (Write (asking 512 1024) ∷ answers 0 512 ∷ []) (answers 0 512) ≡ Done 0
+  pub written : replyAfter (Write (asking 512 1024) ∷ answers 0 512 ∷ answers 0 512 ∷ []) Take ≡ Took (record { tag = 70; outcome = Written (ticketOf 1); buf = Back 0 1024 })
+  -- "*Row 0 then gives tag 4,294,967,296."
+  pub next-tag : replyAfter (Write (asking 512 1024) ∷ answers 0 512 ∷ answers 0 512 ∷ Take ∷ []) (Write (asking 512 1024)) ≡ piece 4294967296 (offsetOf 1536) 512 0
   -- "*Length 512 at 1,536: one piece, offset 8,704."
   pub at-1536 : replyTo (Write (asking 1536 512)) ≡ piece 0 (offsetOf 8704) 512 0
   pub one-piece : issuedUpTo 512 (regionAt figuresTable 0 .map) 1536 (begun 512) ≡ found 8704 512 ∷ []
@@ -95,3 +177,18 @@ pub record Figures : Type 0 where
   pub read-256-values : valuesOf (replyTo (ReadPage (asking 256 512))) ≡ range 7 (positionOf 256) (positionOf 768)
   -- "*Length 0: 8."
   pub empty : numberOf (replyTo (Write (asking 512 0))) ≡ some 8
+  -- "*One live, one ready: 3."
+  pub live-and-ready : numberOf (replyAfter (Write (asking 512 512) ∷ answers 0 512 ∷ Write (inBuffer 1 (asking 512 512)) ∷ []) (Write (inBuffer 2 (asking 512 512)))) ≡ some 3
+  -- "Two pieces of 512, second answered 100: *the read ends 612"
+  pub read-612 : replyAfter (ReadPage (asking 512 1024) ∷ answers 0 512 ∷ answers 0 100 ∷ []) Take ≡ Took (record { tag = 70; outcome = readTo 612; buf = Back 0 612 })
+  -- "*the write poisons"
+  pub write-unknown : replyAfter (Write (asking 512 1024) ∷ answers 0 512 ∷ answers 0 100 ∷ []) Take ≡ Took (record { tag = 70; outcome = Unknown rangeThere byWrite; buf = Back 0 1024 })
+  pub poisons : replyAfter (Write (asking 512 1024) ∷ answers 0 512 ∷ answers 0 100 ∷ []) (Write (inBuffer 1 (asking 512 512))) ≡ turnedAway (poisonedNow byWrite)
+  -- "*Generation 4,294,967,295 released: 0."
+  pub last-generation : generationAfter (Write (asking 512 512) ∷ answers 18446744069414584320 512 ∷ []) ≡ 0
+  -- "*Flush result 0: not synced." (and ours: another is)
+  pub not-synced : synced (replyAfter (SetForced 0 true ∷ Write (durably (asking 512 512)) ∷ answers 0 512 ∷ Flushed 0 (Need 0) ∷ []) Take) ≡ some false
+  pub synced-7 : synced (replyAfter (SetForced 0 true ∷ Write (durably (asking 512 512)) ∷ answers 0 512 ∷ Flushed 0 (Need 7) ∷ []) Take) ≡ some true
+  -- ours: a first piece refused keeps the generation and poisons nothing, a lost buffer is never accepted again
+  pub refused-first : replyAfter (Write (asking 512 512) ∷ Answer 0 Refused true 0 ∷ []) (Write (asking 512 512)) ≡ piece 0 (offsetOf 1536) 512 0
+  pub lost-buffer : numberOf (replyAfter (ReadPage (asking 512 512) ∷ Answer 0 (Count 512) false 0 ∷ Take ∷ []) (ReadPage (asking 512 512))) ≡ some 11
