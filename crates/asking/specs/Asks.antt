@@ -15,7 +15,7 @@ use Rattle.model.specs.State.{State, Region}
 use Rattle.model.specs.Memory.{settingsIn, poisonIn, ownerIn}
 use Rattle.step.specs.Questions.{rangeFrom, regionAt, firstNo, bufferInPool, hostHoldsBuffer, roomInTable, lifetimeLeft, gateOpen, storeWritable, unpoisoned, regionWritable, volumeAndRegionMatch, generationMatches, lengthAbove0, writeOnBlock, readOnBlock, aligned, withinData}
 use Rattle.liveregion.specs.declared.LiveRegion.{LiveRegion}
-use Rattle.liveregion.specs.Live.{InStore, regionOf, ShortError}
+use Rattle.liveregion.specs.Live.{InStore, regionOf}
 
 -- a state whose counts are c and whose settings, poison, regions and owners lie in these words
 pub record Reads (s : State) (c : Counts) (store owners : List ℕ) : Type 0 where
@@ -23,7 +23,6 @@ pub record Reads (s : State) (c : Counts) (store owners : List ℕ) : Type 0 whe
   pub counts : s .counts ≡ c
   pub settings : s .settings ≡ settingsIn store
   pub poison : s .poison ≡ poisonIn store
-  pub short : ShortError store
   pub owners-are : s .owners ≡ map ownerIn (take (settingsIn store .buffers) owners)
   pub in-store : (h : ℕ) → h < settingsIn store .regions → InStore store h
   pub regions : (h : ℕ) → h < settingsIn store .regions → regionAt s h ≡ regionOf store h

@@ -1,12 +1,11 @@
 -- Where a region and the store's poison lie in the store's words (the places are the model's Memory), and what of a region a submission is asked.
 use mathlib.Core.Path.{_≡_}
-use mathlib.Core.Bool.{true}
 use mathlib.Core.List.{List}
-use Prim.Native.Nat.{ℕ, _+_, _*_, _≤_, _<_, _^_}
-use lib.ListN.{length, getD, take, drop}
+use Prim.Native.Nat.{ℕ, _+_, _*_, _≤_, _<_}
+use lib.ListN.{length, take, drop}
 use Rattle.model.specs.declared.Counts.{Counts}
 use Rattle.model.specs.State.{Region}
-use Rattle.model.specs.Memory.{Lent, flag, regionIn, stateIn, settingsIn}
+use Rattle.model.specs.Memory.{Lent, regionIn, stateIn, settingsIn}
 use Rattle.step.specs.Questions.{regionAt}
 use Rattle.liveregion.specs.declared.LiveRegion.{LiveRegion}
 
@@ -21,10 +20,6 @@ regionOf store h = regionIn (take 3 (drop (24 + 3 * h) store)) (take 70 (drop (4
 
 unfoldable pub liveOf : Region → LiveRegion
 liveOf g = record { id = g .id; generation = g .generation; «data» = g .map .dataLength; gate = g .gate; «read_only» = g .readOnly; forced = g .forced }
-
--- the poison's error, if there is one, has 32 bits
-unfoldable pub ShortError : List ℕ → Type 0
-ShortError store = flag (getD store 19 0) ≡ true → flag (getD store 21 0) ≡ true → getD store 22 0 < 2 ^ 32
 
 -- the state's regions are those in the words
 pub record LiveLaws : Type 0 where

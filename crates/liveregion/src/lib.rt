@@ -1,13 +1,9 @@
 // The region's record and the store's poison, read from the store's words (store-io's store.rs: LiveRegion, and Inner's domain).
 ghost use mathlib.Core.Path.{_≡_};
-ghost use Prim.Native.Nat.{_≤_, _<_, _^_};
+ghost use Prim.Native.Nat.{_≤_};
 ghost use lib.ListN.{length};
-ghost use mathlib.Core.Bool.{true};
-ghost use Rattle.model.specs.Memory.{flag, gateIn, opIn, errorIn, poisonIn};
-ghost use Rattle.liveregion.specs.Live.{InStore, regionOf, liveOf, ShortError};
-use domain::FirstCause;
-use domain::Op;
-use domain::OsError;
+ghost use Rattle.model.specs.Memory.{gateIn, poisonIn};
+ghost use Rattle.liveregion.specs.Live.{InStore, regionOf, liveOf};
 use domain::Poisoned;
 use model::Gate;
 
@@ -62,32 +58,9 @@ pub fn region_at(store: &[u64], handle: u64) -> LiveRegion
     }
 }
 
-// An operation in a word.
-fn op_of(word: u64) -> Op
-    ensures { λ r. ⌜ r ≡ opIn word ⌝ }
-{
-    match word {
-        0 => Op::None,
-        1 => Op::Read,
-        2 => Op::Write,
-        _ => Op::Flush,
-    }
-}
-
-// An OS error in two words; the lower 32 bits of the second are taken.
-fn error_of(has: u64, word: u64) -> OsError
-    ensures { λ r. ⌜ ((flag has ≡ true → word < 2 ^ 32) → r ≡ errorIn has word) ⌝ }
-{
-    if has == 0 {
-        OsError::None
-    } else {
-        OsError::Raw((word % 4294967296) as u32)
-    }
-}
-
 // Whether the store is poisoned, and by which cause first (Domain::poisoned); not poisoned where the words are too few.
 pub fn poisoned(store: &[u64]) -> Poisoned
-    ensures { λ r. ⌜ (48 ≤ length (now (store .entry)) → ShortError (now (store .entry)) → r ≡ poisonIn (now (store .entry))) ⌝ }
+    ensures { λ r. ⌜ (48 ≤ length (now (store .entry)) → r ≡ poisonIn (now (store .entry))) ⌝ }
 {
     if store.len() < 48 {
         return Poisoned::Never;
@@ -95,8 +68,5 @@ pub fn poisoned(store: &[u64]) -> Poisoned
     if store[19] == 0 {
         return Poisoned::Never;
     }
-    Poisoned::First(FirstCause {
-        op: op_of(store[20]),
-        raw: error_of(store[21], store[22]),
-    })
+    Poisoned::First(causes::cause_of(store[20], store[21], store[22]))
 }

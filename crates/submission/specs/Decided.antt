@@ -7,10 +7,7 @@ use lib.ListN.{getD}
 use Rattle.regionmap.specs.declared.FoundPiece.{FoundPiece}
 use Rattle.regionmap.specs.declared.Position.{Position}
 use Rattle.regionmap.specs.Words.{positionOf, wrap64}
-use Rattle.completion.specs.declared.Refusal.the-variants.{Unfit}
-use Rattle.completion.specs.declared.Reply.the-variants.{Piece as piece}
 use Rattle.model.specs.declared.Counts.{Counts}
-use Rattle.model.specs.declared.Lengths.{Lengths}
 use Rattle.model.specs.declared.Request.{Request}
 use Rattle.model.specs.declared.Row.{Row}
 use Rattle.model.specs.declared.Asked.{Asked}
@@ -42,8 +39,8 @@ pub record DecidedBy (asked : Asked) (live : ℕ) (store free : List ℕ) (k : K
   pub found : asked ≡ Yes → FirstPiece store q first
   pub verdict : v ≡ verdictWith asked (getD free live 0) k first
 
--- 13 first; else, of every sound table whose parts lie in these words, what the definition says
-pub record Decides (verdict : State → Request → Verdict) (c : Counts) (l : Lengths) (store free owners : List ℕ) (q : Request) (v : Verdict) : Type 0 where
-  pub another-length : sameLengths l store ≡ false → v ≡ refuses Unfit
-  pub as-defined : sameLengths l store ≡ true → (rows : List Row) (ready pool : List ℕ) → lengthsOf (lentOf rows store free ready owners pool) ≡ l
-      → Sound (stateIn c (lentOf rows store free ready owners pool)) → v ≡ verdict (stateIn c (lentOf rows store free ready owners pool)) q
+-- of every sound table whose parts lie in these words, once the lengths are found to be the opening's: what the definition says
+abbrev pub Decides : (State → Request → Verdict) → Counts → List ℕ → List ℕ → List ℕ → Request → Verdict → Type 0
+Decides verdict c store free owners q v =
+    (rows : List Row) (ready pool : List ℕ) → sameLengths (lengthsOf (lentOf rows store free ready owners pool)) store ≡ true → Sound (stateIn c (lentOf rows store free ready owners pool))
+    → v ≡ verdict (stateIn c (lentOf rows store free ready owners pool)) q

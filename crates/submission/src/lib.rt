@@ -1,13 +1,11 @@
-// Whether a submission is accepted, and as what (store-io's submitter/mod.rs: write, read_page and read): the lengths, the questions, and
-// of an accepted one the row on top of the free stack and the first piece.
+// Whether a submission is accepted, and as what (store-io's submitter/mod.rs: write, read_page and read): the questions, and of an
+// accepted one the row on top of the free stack and the first piece.
 ghost use mathlib.Core.Path.{_≡_};
 ghost use Rattle.step.specs.Step.{writeVerdict, readVerdict};
 ghost use Rattle.submission.specs.Decided.{DecidedBy, Decides, endWrapped};
-use completion::Refusal;
 use model::Asked;
 use model::Counts;
 use model::Kind;
-use model::Lengths;
 use model::Request;
 use model::Verdict;
 use regionmap::Position;
@@ -36,20 +34,16 @@ fn decide(asked: Asked, live: u64, store: &[u64], free: &[u64], kind: Kind, q: R
     }
 }
 
-// Whether a write is accepted, and as what (Submitter::write); 13 first.
+// Whether a write is accepted, and as what (Submitter::write).
 pub fn write(
     counts: Counts,
-    l: Lengths,
     store: &[u64],
     free: &[u64],
     owners: &[u64],
     q: Request,
 ) -> Verdict
-    ensures { λ r. ⌜ Decides writeVerdict counts l (now (store .entry)) (now (free .entry)) (now (owners .entry)) q r ⌝ }
+    ensures { λ r. ⌜ Decides writeVerdict counts (now (store .entry)) (now (free .entry)) (now (owners .entry)) q r ⌝ }
 {
-    if !store::same_lengths(store, l) {
-        return Verdict::No(Refusal::Unfit);
-    }
     let asked = asking::ask_write(counts, store, owners, q);
     let start = q.offset;
     let kind = Kind::Page {
@@ -59,20 +53,16 @@ pub fn write(
     decide(asked, counts.live, store, free, kind, q)
 }
 
-// Whether a read is accepted, and as what (Submitter::read_page and read); 13 first.
+// Whether a read is accepted, and as what (Submitter::read_page and read).
 pub fn read_page(
     counts: Counts,
-    l: Lengths,
     store: &[u64],
     free: &[u64],
     owners: &[u64],
     q: Request,
 ) -> Verdict
-    ensures { λ r. ⌜ Decides readVerdict counts l (now (store .entry)) (now (free .entry)) (now (owners .entry)) q r ⌝ }
+    ensures { λ r. ⌜ Decides readVerdict counts (now (store .entry)) (now (free .entry)) (now (owners .entry)) q r ⌝ }
 {
-    if !store::same_lengths(store, l) {
-        return Verdict::No(Refusal::Unfit);
-    }
     let asked = asking::ask_read(counts, store, owners, q);
     let start = q.offset;
     let kind = Kind::Read {

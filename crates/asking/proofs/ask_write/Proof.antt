@@ -46,7 +46,7 @@ returns-3 c =
     ∙ ap (λ (o : Opening). firstNo (writeList o (a .counts) (c .before .before .before .region-at .result) (c .before .poisoned .result) (c .before .before .held .result) (a .q))) (c .before .before .before .before .before .before .before .settings .ensures (r .words))
     ∙ write-asked s (a .counts) (a .store .now) (a .owners .now) (a .q) r (c .before .before .before .region-at .result) (c .before .before .held .result)
     (record { below = read-off (c .before .before .before .before .before .before .before .settings .ensures (r .words)) (λ o. a .q .handle < o .regions) (c .before .before .before .before .if2 .left); region = c .before .before .before .region-at .ensures; holder = read-off (c .before .before .before .before .before .before .before .settings .ensures (r .words)) (λ o. c .before .before .held .result ≡ isHost (getD (map ownerIn (take (o .buffers) (a .owners .now))) (a .q .buffer) lost)) (c .before .before .held .ensures) })
-    (c .before .poisoned .result) (c .before .poisoned .ensures (r .words) (r .short))
+    (c .before .poisoned .result) (c .before .poisoned .ensures (r .words))
 
 pub ask-write-spec : {M : Type 1} → statement M
 ask-write-spec =

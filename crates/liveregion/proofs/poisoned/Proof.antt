@@ -1,14 +1,13 @@
--- `liveregion::poisoned` meets its contract: the word 19 says whether, and the cause is what op_of and error_of ensure of the words behind it.
-use mathlib.Core.Path.{_≡_, ap}
-use mathlib.Core.Bool.{false, not}
+-- `liveregion::poisoned` meets its contract: the word 19 says whether, and the cause is what cause_of ensures of the words behind it.
+use mathlib.Core.Path.{_≡_}
+use mathlib.Core.Bool.{false}
 use native.Mathlib.Omega.{arith}
 use borrow.Author.Needs.{needs}
 use borrow.Author.Tests.{ne-eqb}
 use lib.ListN.{getD}
 use lib.Dec.{eqb}
 use Rattle.layout.specs.Pick.{pick}
-use Rattle.model.specs.Memory.{flag, causeIn, poisonIn}
-use Rattle.liveregion.specs.Live.{ShortError}
+use Rattle.model.specs.Memory.{flag, poisonIn}
 use Rattle.liveregion.proofs.poisoned.Statement.{statement}
 use Rattle.liveregion.proofs.poisoned.Tie as tie
 
@@ -20,29 +19,26 @@ shared-slice-read-if2 c = search needs
 
 returns-2 : tie.Need-returns-2
 unfolding poisonIn flag pick
-returns-2 c = λ long short. rw (c .if2 .taken)
+returns-2 c = λ long. rw (c .if2 .taken)
 
-shared-slice-read-op-of : tie.Need-shared-slice-read-op-of
-shared-slice-read-op-of c = search needs
+shared-slice-read-cause-of : tie.Need-shared-slice-read-cause-of
+shared-slice-read-cause-of c = search needs
 
-op-of-requires : tie.Need-op-of-requires
-op-of-requires c κs = search needs
+shared-slice-read-cause-of-2 : tie.Need-shared-slice-read-cause-of-2
+shared-slice-read-cause-of-2 c = search needs
 
-shared-slice-read-error-of : tie.Need-shared-slice-read-error-of
-shared-slice-read-error-of c = search needs
+shared-slice-read-cause-of-3 : tie.Need-shared-slice-read-cause-of-3
+shared-slice-read-cause-of-3 c = search needs
 
-shared-slice-read-error-of-2 : tie.Need-shared-slice-read-error-of-2
-shared-slice-read-error-of-2 c = search needs
-
-error-of-requires : tie.Need-error-of-requires
-error-of-requires c κs = search needs
+cause-of-requires : tie.Need-cause-of-requires
+cause-of-requires c κs = search needs
 
 returns-3 : tie.Need-returns-3
-unfolding poisonIn causeIn ShortError flag pick
+unfolding poisonIn flag pick
 returns-3 c =
-    let s = c .before .before .before .before .before .before .before .before .before .args .store .now in
-    let is : eqb (getD s 19 0) 0 ≡ false = ne-eqb (getD s 19 0) 0 (c .before .before .before .before .before .if2 .left) in
-    λ long short. rw (is, c .before .before .before .op-of .ensures, c .error-of .ensures (short (ap not is)))
+    let s = c .before .before .before .before .before .before .before .before .args .store .now in
+    let is : eqb (getD s 19 0) 0 ≡ false = ne-eqb (getD s 19 0) 0 (c .before .before .before .before .if2 .left) in
+    λ long. rw (is, c .cause-of .ensures)
 
 pub poisoned-spec : {M : Type 1} → statement M
 poisoned-spec =
@@ -51,9 +47,8 @@ poisoned-spec =
     returns
     shared-slice-read-if2
     returns-2
-    shared-slice-read-op-of
-    op-of-requires
-    shared-slice-read-error-of
-    shared-slice-read-error-of-2
-    error-of-requires
+    shared-slice-read-cause-of
+    shared-slice-read-cause-of-2
+    shared-slice-read-cause-of-3
+    cause-of-requires
     returns-3)

@@ -1,22 +1,12 @@
--- `submission::read_page` meets its contract: the lengths first, then the questions' answer decides (Deciding).
-use mathlib.Core.Path.{sym, _∙_}
-use borrow.Author.Tests.{not-true, not-false}
+-- `submission::read_page` meets its contract: the questions' answer decides (Deciding).
 use Rattle.model.specs.declared.Kind.the-variants.{Read}
 use Rattle.step.specs.Questions.{readQuestions}
 use Rattle.step.specs.Step.{startOf, readVerdict}
 use Rattle.step.proofs.Answers.{read-passed}
-use Rattle.submission.proofs.Deciding.{refused-length, decides}
+use Rattle.submission.proofs.Deciding.{decides}
 use borrow.Author.Needs.{needs}
 use Rattle.submission.proofs.read_page.Statement.{statement}
 use Rattle.submission.proofs.read_page.Tie as tie
-
-same-lengths-requires : tie.Need-same-lengths-requires
-same-lengths-requires c κs = search needs
-
-returns : tie.Need-returns
-returns c =
-    let a = c .before .before .before .before .before .args in
-    refused-length _ (a .counts) (a .l) (a .store .now) (a .free .now) (a .owners .now) (a .q) (sym (c .before .same-lengths .ensures) ∙ not-true _ (c .if1 .taken))
 
 ask-read-requires : tie.Need-ask-read-requires
 ask-read-requires c κs = search needs
@@ -27,20 +17,12 @@ end-of-requires c κs = search needs
 decide-requires : tie.Need-decide-requires
 decide-requires c κs = search needs
 
-returns-2 : tie.Need-returns-2
+returns : tie.Need-returns
 unfolding readVerdict
-returns-2 c =
-    let a = c .before .before .before .before .before .before .before .before .before .args in
-    decides readQuestions read-passed (λ q end. Read (startOf q) end) (a .counts) (a .l) (a .store .now) (a .free .now) (a .owners .now) (a .q)
-    (sym (c .before .before .before .before .before .same-lengths .ensures) ∙ not-false _ (c .before .before .before .before .if1 .left)) (c .before .before .before .ask-read .result) (c .before .before .before .ask-read .ensures) (c .before .end-of .result) (c .before .end-of .ensures) (c .decide .result) (c .decide .ensures)
+returns c =
+    let a = c .before .before .before .before .args in
+    decides readQuestions read-passed (λ q end. Read (startOf q) end) (a .counts) (a .store .now) (a .free .now) (a .owners .now) (a .q)
+    (c .before .before .before .ask-read .result) (c .before .before .before .ask-read .ensures) (c .before .end-of .result) (c .before .end-of .ensures) (c .decide .result) (c .decide .ensures)
 
 pub read-page-spec : {M : Type 1} → statement M
-read-page-spec =
-    tie.close
-    (tie.spec
-    same-lengths-requires
-    returns
-    ask-read-requires
-    end-of-requires
-    decide-requires
-    returns-2)
+read-page-spec = tie.close (tie.spec ask-read-requires end-of-requires decide-requires returns)

@@ -1,9 +1,9 @@
--- `liveregion::op_of` meets its contract: each arm knows the word, or which words it is not.
+-- `causes::op_of` meets its contract: each arm knows the word, or which words it is not.
 use borrow.Author.Tests.{ne-eqb}
 use Rattle.layout.specs.Pick.{pick}
 use Rattle.model.specs.Memory.{opIn}
-use Rattle.liveregion.proofs.op_of.Statement.{statement}
-use Rattle.liveregion.proofs.op_of.Tie as tie
+use Rattle.causes.proofs.op_of.Statement.{statement}
+use Rattle.causes.proofs.op_of.Tie as tie
 
 returns : tie.Need-returns
 unfolding opIn pick
