@@ -1,0 +1,69 @@
+-- What the proofs of this crate share: a count that is written, a receipt that is synced, an answer that is no count, a sum that fits.
+use mathlib.Core.Path.{_≡_, refl, sym, ap, ap₂, _∙_}
+use mathlib.Core.Logic.{⊎-elim}
+use mathlib.Core.Bool.{Bool, true, false, not, _&&_, _||_}
+use mathlib.Core.List.{List, [], _∷_}
+use Prim.Native.Nat.{ℕ, _+_, _-_, _%_, _≤_, _<_, _^_}
+use native.Mathlib.Nat.{mod-eq-of-lt}
+use native.Mathlib.Omega.{arith}
+use types.Run.{OneOf, miss}
+use denote.Enum.Declared.{tagOf}
+use borrow.Author.Tests.{leb-true, leb-false, eqb-true, eqb-false, eq-eqb, ne-eqb}
+use lib.Dec.{leb, eqb}
+use Rattle.layout.proofs.Tests.{true-or-false}
+use Rattle.platform.specs.declared.Answer.{Answer}
+use Rattle.platform.specs.declared.Answer.the-variants.{Count, Error, Refused, RefusedWith}
+use Rattle.platform.proofs.Answer.{the-type}
+use Rattle.model.specs.declared.Split.{Split}
+use Rattle.step.specs.Rules.{isWritten, readLength}
+
+-- ---- tests
+
+-- done and n make the total just where done is at most the total and n is what is left of it
+module _ (done total n : ℕ) where
+  abbrev Left : Type 0
+  Left = eqb n (total - done) ≡ eqb (done + n) total
+
+  within : done ≤ total → Left
+  within l =
+      ⊎-elim (λ (t : eqb n (total - done) ≡ true). t ∙ sym (eq-eqb (done + n) total (omega (arith, l, eqb-true n (total - done) t))))
+      (λ (f : eqb n (total - done) ≡ false). f ∙ sym (ne-eqb (done + n) total (λ e. eqb-false n (total - done) f (omega (arith, l, e)))))
+      (true-or-false (eqb n (total - done)))
+
+  past : total < done → false ≡ eqb (done + n) total
+  past l = sym (ne-eqb (done + n) total (λ e. omega (arith, l, e)))
+
+  pub fills : (leb done total && eqb n (total - done)) ≡ eqb (done + n) total
+  fills =
+      ⊎-elim (λ (t : leb done total ≡ true). ap (λ (b : Bool). b && eqb n (total - done)) t ∙ within (leb-true done total t))
+      (λ (f : leb done total ≡ false). ap (λ (b : Bool). b && eqb n (total - done)) f ∙ past (leb-false done total f))
+      (true-or-false (leb done total))
+
+-- neither holds just where each does not
+pub neither : (a b : Bool) → (not a && not b) ≡ not (a || b)
+neither true b = refl
+neither false b = refl
+
+-- ---- sums
+
+pub no-wrap : (a b n : ℕ) → n ≡ (a + b) % 2 ^ 64 → a + b < 2 ^ 64 → n ≡ a + b
+no-wrap a b n e small = e ∙ mod-eq-of-lt small
+
+-- ---- answers that are no count, by their numbers
+
+abbrev others : List ℕ
+others = 1 ∷ 2 ∷ 3 ∷ []
+
+pub not-written : (s : Split) (answer : Answer) (back : Bool) → OneOf others (tagOf the-type answer) → false ≡ isWritten s answer back
+unfolding isWritten
+not-written s (Count n) back w = absurd (miss others 0 tt w)
+not-written s (Error e media) back w = refl
+not-written s Refused back w = refl
+not-written s (RefusedWith e media) back w = refl
+
+pub whole-length : (s : Split) (answer : Answer) → OneOf others (tagOf the-type answer) → s .total ≡ readLength s answer
+unfolding readLength
+whole-length s (Count n) w = absurd (miss others 0 tt w)
+whole-length s (Error e media) w = refl
+whole-length s Refused w = refl
+whole-length s (RefusedWith e media) w = refl

@@ -1,0 +1,25 @@
+-- `settle::failed_write` meets its contract: its parts are what the callees ensure.
+use Rattle.layout.specs.Pick.{pick}
+use Rattle.step.specs.Rules.{rangeOf, firstOf, lastOf, causeOf, isWritten, lastPiece}
+use Rattle.settle.specs.Finished.{causeIs, fateBy, planWith}
+use borrow.Author.Needs.{needs}
+use Rattle.settle.proofs.failed_write.Statement.{statement}
+use Rattle.settle.proofs.failed_write.Tie as tie
+
+error-of-requires : tie.Need-error-of-requires
+error-of-requires c κs = search needs
+
+buffer-as-requires : tie.Need-buffer-as-requires
+buffer-as-requires c κs = search needs
+
+turn-back-requires : tie.Need-turn-back-requires
+turn-back-requires c κs = search needs
+
+returns : tie.Need-returns
+unfolding fateBy causeIs planWith rangeOf firstOf lastOf causeOf lastPiece pick
+returns c =
+    λ o m first row flushes own unwritten bytes. rw unwritten (cc (own, c .turn-back .ensures bytes, c .before .buffer-as .ensures, c .before .before .error-of .ensures))
+
+pub failed-write-spec : {M : Type 1} → statement M
+failed-write-spec =
+    tie.close (tie.spec error-of-requires buffer-as-requires turn-back-requires returns)
