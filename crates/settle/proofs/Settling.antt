@@ -1,8 +1,9 @@
 -- What the proofs of this crate share: a count that is written, a receipt that is synced, an answer that is no count, a sum that fits.
-use mathlib.Core.Path.{_≡_, refl, sym, ap, ap₂, _∙_}
+use mathlib.Core.Path.{_≡_, refl, sym, ap, _∙_}
 use mathlib.Core.Logic.{⊎-elim}
 use mathlib.Core.Bool.{Bool, true, false, not, _&&_, _||_}
 use mathlib.Core.List.{List, [], _∷_}
+use mathlib.Core.Option.{Option}
 use Prim.Native.Nat.{ℕ, _+_, _-_, _%_, _≤_, _<_, _^_}
 use native.Mathlib.Nat.{mod-eq-of-lt}
 use native.Mathlib.Omega.{arith}
@@ -11,11 +12,14 @@ use denote.Enum.Declared.{tagOf}
 use borrow.Author.Tests.{leb-true, leb-false, eqb-true, eqb-false, eq-eqb, ne-eqb}
 use lib.Dec.{leb, eqb}
 use Rattle.layout.proofs.Tests.{true-or-false}
+use Rattle.domain.specs.declared.FirstCause.{FirstCause}
 use Rattle.platform.specs.declared.Answer.{Answer}
 use Rattle.platform.specs.declared.Answer.the-variants.{Count, Error, Refused, RefusedWith}
 use Rattle.platform.proofs.Answer.{the-type}
+use Rattle.completion.specs.declared.Outcome.{Outcome}
+use Rattle.completion.specs.declared.Buffer.{Buffer}
 use Rattle.model.specs.declared.Split.{Split}
-use Rattle.step.specs.Rules.{isWritten, readLength}
+use Rattle.step.specs.Rules.{Fate, Fate.ends, isWritten, readLength}
 
 -- ---- tests
 
@@ -67,3 +71,9 @@ whole-length s (Count n) w = absurd (miss others 0 tt w)
 whole-length s (Error e media) w = refl
 whole-length s Refused w = refl
 whole-length s (RefusedWith e media) w = refl
+
+-- ---- ends
+
+-- two ends of the same cause are the same where their parts are
+pub same-end : {x y : Outcome} {b d : Buffer} {l k : List ℕ} {cause : Option FirstCause} → x ≡ y → b ≡ d → l ≡ k → _≡_ {A = Fate} (ends x b l cause) (ends y d k cause)
+same-end {cause = cause} p q r = λ i. ends (p i) (q i) (r i) cause
