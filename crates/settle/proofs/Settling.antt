@@ -18,8 +18,7 @@ use Rattle.platform.specs.declared.Answer.the-variants.{Count, Error, Refused, 
 use Rattle.platform.proofs.Answer.{the-type}
 use Rattle.completion.specs.declared.Outcome.{Outcome}
 use Rattle.completion.specs.declared.Buffer.{Buffer}
-use Rattle.model.specs.declared.Split.{Split}
-use Rattle.step.specs.Rules.{Fate, Fate.ends, isWritten, readLength}
+use Rattle.step.specs.Rules.{Fate, Fate.ends}
 
 -- ---- tests
 
@@ -53,24 +52,19 @@ neither false b = refl
 pub no-wrap : (a b n : ℕ) → n ≡ (a + b) % 2 ^ 64 → a + b < 2 ^ 64 → n ≡ a + b
 no-wrap a b n e small = e ∙ mod-eq-of-lt small
 
--- ---- answers that are no count, by their numbers
+-- ---- answers
 
+-- the answers that are no count, by their numbers
 abbrev others : List ℕ
 others = 1 ∷ 2 ∷ 3 ∷ []
 
-pub not-written : (s : Split) (answer : Answer) (back : Bool) → OneOf others (tagOf the-type answer) → false ≡ isWritten s answer back
-unfolding isWritten
-not-written s (Count n) back w = absurd (miss others 0 tt w)
-not-written s (Error e media) back w = refl
-not-written s Refused back w = refl
-not-written s (RefusedWith e media) back w = refl
-
-pub whole-length : (s : Split) (answer : Answer) → OneOf others (tagOf the-type answer) → s .total ≡ readLength s answer
-unfolding readLength
-whole-length s (Count n) w = absurd (miss others 0 tt w)
-whole-length s (Error e media) w = refl
-whole-length s Refused w = refl
-whole-length s (RefusedWith e media) w = refl
+-- what holds of each of them
+pub no-count : (P : Answer → Type 0) → ((e : ℕ) (media : Bool) → P (Error e media)) → P Refused → ((e : ℕ) (media : Bool) → P (RefusedWith e media))
+    → (answer : Answer) → OneOf others (tagOf the-type answer) → P answer
+no-count P error refused with (Count n) w = absurd (miss others 0 tt w)
+no-count P error refused with (Error e media) w = error e media
+no-count P error refused with Refused w = refused
+no-count P error refused with (RefusedWith e media) w = with e media
 
 -- ---- ends
 
