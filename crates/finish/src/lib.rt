@@ -57,7 +57,18 @@ fn goes_on(piece: u64, s: Split, answer: Answer, back: bool) -> bool
 }
 
 // A piece's answer (Table::finish, refused_next).
-fn finish_piece(o: Opening, g: LiveRegion, first: Poisoned, row: Row, kind: Kind, s: Split, piece: u64, answer: Answer, back: bool, flushes: u64) -> Finished
+fn finish_piece(
+    o: Opening,
+    g: LiveRegion,
+    first: Poisoned,
+    row: Row,
+    kind: Kind,
+    s: Split,
+    piece: u64,
+    answer: Answer,
+    back: bool,
+    flushes: u64,
+) -> Finished
     ensures { λ r. ⌜ ((m : Map) → g .generation < 2 ^ 32 → s .done + piece < 2 ^ 64 → Tells r (λ bytes. pieceAnswered o (planWith g m) (g .forced) first row kind s piece bytes answer back flushes)) ⌝ }
 {
     if above_piece(piece, answer) {
@@ -70,14 +81,12 @@ fn finish_piece(o: Opening, g: LiveRegion, first: Poisoned, row: Row, kind: Kind
         };
     }
     if goes_on(piece, s, answer, back) {
+        let next = Split {
+            total: s.total,
+            done: std::num::wrapping_add_u64(s.done, piece),
+        };
         return Finished::Next {
-            awaits: Awaits::Piece(
-                kind,
-                Split {
-                    total: s.total,
-                    done: std::num::wrapping_add_u64(s.done, piece),
-                },
-            ),
+            awaits: Awaits::Piece(kind, next),
             turn: Turn {
                 total: s.total,
                 by: piece,
@@ -88,13 +97,33 @@ fn finish_piece(o: Opening, g: LiveRegion, first: Poisoned, row: Row, kind: Kind
 }
 
 // An answer to the operation in a row (Table::finish); the piece's length is given.
-pub fn finish(o: Opening, g: LiveRegion, first: Poisoned, row: Row, piece: u64, answer: Answer, back: bool, flushes: u64) -> Finished
+pub fn finish(
+    o: Opening,
+    g: LiveRegion,
+    first: Poisoned,
+    row: Row,
+    piece: u64,
+    answer: Answer,
+    back: bool,
+    flushes: u64,
+) -> Finished
     ensures { λ r. ⌜ ((m : Map) → g .generation < 2 ^ 32 → PieceFits g m piece (row .awaits) → Tells r (λ bytes. rules o (planWith g m) (g .forced) first row bytes (answered answer back flushes))) ⌝ }
 {
     let awaits = row.awaits;
     match awaits {
-        Awaits::Piece(kind, split) => finish_piece(o, g, first, row, kind, split, piece, answer, back, flushes),
-        _ => Finished::Away(Refusal::NotAwaited),
+        Awaits::Piece(kind, split) => finish_piece(
+            o,
+            g,
+            first,
+            row,
+            kind,
+            split,
+            piece,
+            answer,
+            back,
+            flushes,
+        ),
+        _ => Finished::Away(Refusal::NotAwaited), // awaits no piece
     }
 }
 
@@ -144,6 +173,6 @@ pub fn flushed(o: Opening, row: Row, result: Flushed) -> Finished
             turn: Turn { total: 0, by: 0 },
             cause: Poisoned::Never,
         },
-        _ => Finished::Away(Refusal::NotAwaited),
+        _ => Finished::Away(Refusal::NotAwaited), // awaits no flush
     }
 }

@@ -1,32 +1,18 @@
 -- What the functions on values give, beside the rules of the crate step: a turn is told by its numbers, and the rules' fate follows from it and the bytes.
 use mathlib.Core.Path.{_≡_}
-use mathlib.Core.Bool.{Bool, true, false, _||_}
 use mathlib.Core.List.{List}
 use mathlib.Core.Option.{Option, none, some}
-use Prim.Native.Nat.{ℕ, _+_, _-_, _<_, _^_}
-use Rattle.layout.specs.Pick.{pick}
-use Rattle.regionmap.specs.declared.Position.{Position}
+use Prim.Native.Nat.{ℕ, _+_, _<_, _^_}
 use Rattle.regionmap.specs.Map.{Map}
 use Rattle.iobuf.specs.Turn.{turned}
 use Rattle.domain.specs.declared.FirstCause.{FirstCause}
 use Rattle.domain.specs.declared.Poisoned.{Poisoned}
 use Rattle.domain.specs.declared.Poisoned.the-variants.{Never, First}
-use Rattle.domain.specs.Domain.{needAfter}
 use Rattle.platform.specs.declared.Answer.{Answer}
 use Rattle.platform.specs.declared.Answer.the-variants.{Count, Error, Refused, RefusedWith}
-use Rattle.platform.specs.declared.Flushed.{Flushed}
-use Rattle.completion.specs.declared.WriteTicket.{WriteTicket}
-use Rattle.completion.specs.declared.Range.{Range}
-use Rattle.completion.specs.declared.Outcome.{Outcome}
-use Rattle.completion.specs.declared.Outcome.the-variants.{Written, Unknown}
-use Rattle.completion.specs.declared.Buffer.{Buffer}
-use Rattle.model.specs.declared.Opening.{Opening}
-use Rattle.model.specs.declared.Kind.{Kind}
-use Rattle.model.specs.declared.Kind.the-variants.{Page, Read}
 use Rattle.model.specs.declared.Split.{Split}
 use Rattle.model.specs.declared.Awaits.{Awaits}
 use Rattle.model.specs.declared.Awaits.the-variants.{Nothing, Piece, Flush}
-use Rattle.model.specs.declared.Row.{Row}
 use Rattle.model.specs.Opening.{Plan}
 use Rattle.liveregion.specs.declared.LiveRegion.{LiveRegion}
 use Rattle.step.specs.Rules.{pieceLength, Fate, Fate.away, Fate.awaits, Fate.ends, Fate.rejected}

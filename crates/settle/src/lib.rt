@@ -98,7 +98,11 @@ pub fn buffer_as(back: bool, buffer: u64, len: u64) -> Buffer
 pub fn left(s: Split) -> u64
     ensures { λ r. ⌜ r ≡ s .total - s .done ⌝ }
 {
-    if s.done < s.total { s.total - s.done } else { 0 }
+    if s.done < s.total {
+        s.total - s.done
+    } else {
+        0
+    }
 }
 
 // The turn back to the first arrangement, by total - done; a lost buffer stays as it lies.
@@ -214,7 +218,15 @@ fn unflushed_outcome(o: Opening, first: Poisoned, t: WriteTicket) -> Outcome
 }
 
 // A write that is written (Table::conclude): plain ends there; durable awaits its flush, or ends without one.
-fn conclude(o: Opening, forced: bool, first: Poisoned, durable: bool, t: WriteTicket, buf: Buffer, turn: Turn) -> Finished
+fn conclude(
+    o: Opening,
+    forced: bool,
+    first: Poisoned,
+    durable: bool,
+    t: WriteTicket,
+    buf: Buffer,
+    turn: Turn,
+) -> Finished
     ensures { λ r. ⌜ Tells r (λ bytes. writtenAs o forced first durable t buf (turnedBy turn bytes)) ⌝ }
 {
     if !durable {
@@ -240,7 +252,15 @@ fn conclude(o: Opening, forced: bool, first: Poisoned, durable: bool, t: WriteTi
 }
 
 // The end of a read's last piece.
-fn last_read(g: LiveRegion, buffer: u64, start: Position, end: Position, s: Split, answer: Answer, back: bool) -> Finished
+fn last_read(
+    g: LiveRegion,
+    buffer: u64,
+    start: Position,
+    end: Position,
+    s: Split,
+    answer: Answer,
+    back: bool,
+) -> Finished
     ensures { λ r. ⌜ ((o : Opening) (m : Map) (first : Poisoned) (row : Row) (flushes : ℕ) → row .buffer ≡ buffer → CountFits s answer → Tells r (λ bytes. lastPiece o (planWith g m) (g .forced) first row (read start end) s bytes answer back flushes)) ⌝ }
 {
     let range = Range {
@@ -257,7 +277,15 @@ fn last_read(g: LiveRegion, buffer: u64, start: Position, end: Position, s: Spli
 }
 
 // A write that is not written (settle): DurabilityUnknown, and the store is poisoned with the cause write and the error.
-fn failed_write(g: LiveRegion, buffer: u64, start: Position, end: Position, s: Split, answer: Answer, back: bool) -> Finished
+fn failed_write(
+    g: LiveRegion,
+    buffer: u64,
+    start: Position,
+    end: Position,
+    s: Split,
+    answer: Answer,
+    back: bool,
+) -> Finished
     ensures { λ r. ⌜ ((o : Opening) (m : Map) (first : Poisoned) (row : Row) (flushes : ℕ) → row .buffer ≡ buffer → isWritten s answer back ≡ false → Tells r (λ bytes. lastPiece o (planWith g m) (g .forced) first row (page start end) s bytes answer back flushes)) ⌝ }
 {
     let cause = FirstCause {
@@ -278,7 +306,18 @@ fn failed_write(g: LiveRegion, buffer: u64, start: Position, end: Position, s: S
 }
 
 // The end of a write's last piece (settle, then conclude).
-fn last_write(o: Opening, g: LiveRegion, first: Poisoned, row: Row, start: Position, end: Position, s: Split, answer: Answer, back: bool, flushes: u64) -> Finished
+fn last_write(
+    o: Opening,
+    g: LiveRegion,
+    first: Poisoned,
+    row: Row,
+    start: Position,
+    end: Position,
+    s: Split,
+    answer: Answer,
+    back: bool,
+    flushes: u64,
+) -> Finished
     ensures { λ r. ⌜ ((m : Map) → g .generation < 2 ^ 32 → Tells r (λ bytes. lastPiece o (planWith g m) (g .forced) first row (page start end) s bytes answer back flushes)) ⌝ }
 {
     if !is_written(s, answer, back) {
@@ -290,11 +329,32 @@ fn last_write(o: Opening, g: LiveRegion, first: Poisoned, row: Row, start: Posit
 }
 
 // The end of the operation's last piece, by its kind.
-pub fn last_piece(o: Opening, g: LiveRegion, first: Poisoned, row: Row, kind: Kind, s: Split, answer: Answer, back: bool, flushes: u64) -> Finished
+pub fn last_piece(
+    o: Opening,
+    g: LiveRegion,
+    first: Poisoned,
+    row: Row,
+    kind: Kind,
+    s: Split,
+    answer: Answer,
+    back: bool,
+    flushes: u64,
+) -> Finished
     ensures { λ r. ⌜ ((m : Map) → g .generation < 2 ^ 32 → CountFits s answer → Tells r (λ bytes. lastPiece o (planWith g m) (g .forced) first row kind s bytes answer back flushes)) ⌝ }
 {
     match kind {
-        Kind::Page { start, end } => last_write(o, g, first, row, start, end, s, answer, back, flushes),
+        Kind::Page { start, end } => last_write(
+            o,
+            g,
+            first,
+            row,
+            start,
+            end,
+            s,
+            answer,
+            back,
+            flushes,
+        ),
         Kind::Read { start, end } => last_read(g, row.buffer, start, end, s, answer, back),
     }
 }

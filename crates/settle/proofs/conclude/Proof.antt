@@ -1,0 +1,33 @@
+-- `settle::conclude` meets its contract: each way out knows what was asked, and there the definition computes.
+use borrow.Author.Tests.{not-true, not-false}
+use Rattle.layout.specs.Pick.{pick}
+use Rattle.step.specs.Rules.{writtenAs}
+use Rattle.settle.specs.Finished.{causeIs, fateBy}
+use mathlib.Core.Path.{sym, _∙_}
+use borrow.Author.Needs.{needs}
+use Rattle.settle.proofs.conclude.Statement.{statement}
+use Rattle.settle.proofs.conclude.Tie as tie
+
+returns : tie.Need-returns
+unfolding fateBy causeIs writtenAs pick
+returns c = λ bytes. rw (not-true (c .before .args .durable) (c .if1 .taken))
+
+either-requires : tie.Need-either-requires
+either-requires c κs = search needs
+
+returns-2 : tie.Need-returns-2
+unfolding fateBy causeIs writtenAs pick
+returns-2 c = λ bytes. rw (not-false (c .before .before .before .args .durable) (c .before .before .if1 .left), sym (c .before .either .ensures) ∙ c .if2 .taken)
+
+unflushed-outcome-requires : tie.Need-unflushed-outcome-requires
+unflushed-outcome-requires c κs = search needs
+
+returns-3 : tie.Need-returns-3
+unfolding fateBy causeIs writtenAs pick
+returns-3 c =
+    λ bytes.
+    rw (not-false (c .before .before .before .before .args .durable) (c .before .before .before .if1 .left), sym (c .before .before .either .ensures) ∙ c .before .if2 .left, c .unflushed-outcome .ensures)
+
+pub conclude-spec : {M : Type 1} → statement M
+conclude-spec =
+    tie.close (tie.spec returns either-requires returns-2 unflushed-outcome-requires returns-3)
