@@ -1,7 +1,9 @@
 // An answer and a flush result, on a table in what is lent (store-io's submitter/mod.rs: the arms that answer a queue tag). The row that the tag names is given.
+ghost use mathlib.Core.Path.{_≡_};
 ghost use Rattle.model.specs.declared.Call.the-variants.{Answer as answerCall, Flushed as flushedCall};
 ghost use Rattle.step.specs.Step.{names};
 ghost use Rattle.called.specs.Called.{ArmTo};
+ghost use Rattle.answers.specs.UnderWay.{UnderWay};
 use called::Touched;
 use completion::Refusal;
 use model::Awaits;
@@ -24,6 +26,14 @@ fn named(row: Row, qtag: u64) -> bool
 
 // The length of the piece under way; 0 where none is.
 fn under_way(store: &[u64], row: Row) -> u64
+    ensures { λ r. ⌜ UnderWay (now (store .entry)) (row .handle) (row .awaits) r ⌝ }
+{
+    let awaits = row.awaits;
+    match awaits {
+        Awaits::Piece(kind, split) => carry::piece_of(store, row.handle, kind, split).count,
+        _ => 0,
+    }
+}
 
 // An answer arrives.
 pub fn answer(qtag: u64, answer: Answer, back: bool, flushes: u64, row: Row, counts: Counts, rows: usize, store: &mut [u64], free: &mut [u64], ready: &mut [u64], owners: &mut [u64], pool: &mut [u8]) -> Touched

@@ -2,13 +2,13 @@
 use mathlib.Core.Path.{_≡_}
 use mathlib.Core.Bool.{false}
 use mathlib.Core.List.{List}
-use Prim.Native.Nat.{ℕ, _+_, _-_, _<_, _^_}
+use Prim.Native.Nat.{ℕ, _+_, _-_}
 use lib.ListN.{set}
 use lib.Dec.{ltb}
 use Rattle.layout.specs.Pick.{pick}
 use Rattle.regionmap.specs.declared.FoundPiece.{FoundPiece}
 use Rattle.regionmap.specs.Map.{Map}
-use Rattle.regionmap.specs.Words.{HoldsMap, wrap64}
+use Rattle.regionmap.specs.Words.{wrap64}
 use Rattle.iobuf.specs.Turn.{turnedIn}
 use Rattle.domain.specs.declared.Poisoned.{Poisoned}
 use Rattle.domain.specs.declared.Poisoned.the-variants.{Never, First}
@@ -18,6 +18,8 @@ use Rattle.completion.specs.declared.Reply.{Reply}
 use Rattle.completion.specs.declared.Reply.the-variants.{Piece as piece, Done, Flush as flushAsked}
 use Rattle.model.specs.declared.Counts.{Counts}
 use Rattle.model.specs.declared.Opening.{Opening}
+use Rattle.model.specs.declared.Kind.{Kind}
+use Rattle.model.specs.declared.Split.{Split}
 use Rattle.model.specs.declared.Awaits.{Awaits}
 use Rattle.model.specs.declared.Awaits.the-variants.{Nothing, Piece, Flush}
 use Rattle.model.specs.declared.Row.{Row}
@@ -28,8 +30,6 @@ use Rattle.optable.specs.declared.Frees.the-variants.{Nothing as none, Rejected
 use Rattle.called.specs.declared.Touched.{Touched}
 use Rattle.called.specs.Called.{awayWith}
 use Rattle.liveregion.specs.declared.LiveRegion.{LiveRegion}
-use Rattle.model.specs.Laws.{mapWordsAt}
-use Rattle.liveregion.specs.Live.{InStore}
 use Rattle.firstpiece.specs.Piece.{PieceIn}
 use Rattle.publish.specs.Queue.{published}
 use Rattle.marks.specs.Marks.{poisonedIn}
@@ -87,18 +87,22 @@ poolBy (Next a t) capacity row pool = turnedPool capacity (row .buffer) t pool
 poolBy (Ended o b t cause) capacity row pool = turnedPool capacity (row .buffer) t pool
 poolBy (Rejected e b) capacity row pool = pool
 
--- what is asked of the host next: the next piece, found in the region's words, or the flush
+-- the next piece, found in the region's words
+pub record AsksPiece (store : List ℕ) (row : Row) (t : ℕ) (k : Kind) (s : Split) (r : Reply) : Type 0 where
+  pub found : FoundPiece
+  pub is : PieceIn store (row .handle) (wrap64 (firstOf k .0 + s .done)) (s .total - s .done) found
+  pub reply : r ≡ piece t (found .offset) (found .count) (row .buffer)
+
+-- what is asked of the host next: the next piece, or the flush
 unfoldable pub AsksFor : List ℕ → Row → ℕ → Awaits → Reply → Type 0
 AsksFor store row t Nothing r = r ≡ Done t
-AsksFor store row t (Piece k s) r =
-    (found : FoundPiece) → PieceIn store (row .handle) (wrap64 (firstOf k .0 + s .done)) (s .total - s .done) found
-    → InStore store (row .handle) → HoldsMap (mapWordsAt store (row .handle)) → r ≡ piece t (found .offset) (found .count) (row .buffer)
+AsksFor store row t (Piece k s) r = AsksPiece store row t k s r
 AsksFor store row t (Flush ticket) r = r ≡ flushAsked t (ticket .need)
 
 -- the row, the counts and the reply
 unfoldable pub TouchedBy : Finished → ℕ → Row → LiveRegion → List ℕ → Touched → Type 0
 TouchedBy (Away f) t row g store r = r ≡ awayWith row f
-TouchedBy (Next a turn) t row g store r = (asked : Reply) → AsksFor store row t a asked → r ≡ record { row = awaitsNow row a; accepts = false; frees = none; reply = asked }
+TouchedBy (Next a turn) t row g store r = AsksFor store row t a (r .reply) × (r ≡ record { row = awaitsNow row a; accepts = false; frees = none; reply = r .reply })
 TouchedBy (Ended o b turn cause) t row g store r = r ≡ record { row = freed (raised (row .generation)); accepts = false; frees = oneCompleted; reply = Done t }
 TouchedBy (Rejected e b) t row g store r = (m : Map) → r ≡ record { row = freed (row .generation); accepts = false; frees = oneRejected; reply = rejection (planWith g m) (row .awaits) e b }
 

@@ -1,10 +1,19 @@
 // What becomes of an operation is carried into the table: its buffer's bytes turn, and it goes on, or its row is freed (store-io's optable.rs: release and
 // abort; settle.rs's publish as document 01 restates it).
 ghost use mathlib.Core.Path.{_≡_};
-ghost use Prim.Native.Nat.{_-_, _%_, _+_, _^_};
+ghost use Prim.Native.Nat.{_+_, _-_};
 ghost use lib.ListN.{set};
-ghost use Rattle.step.specs.Step.{raised, awaitsNow, rowOf};
-ghost use Rattle.carry.specs.Carried.{turnedPool, pushed, ownerWord, poisonedBy, AsksFor, rejectedAs, touchedBy, poolBy, storeBy, freeBy, readyBy, ownersBy};
+ghost use Rattle.completion.specs.declared.Reply.the-variants.{Rejected as rejectedReply};
+ghost use Rattle.model.specs.declared.Awaits.the-variants.{Piece as awaitsPiece};
+ghost use Rattle.model.specs.Opening.{Plan};
+ghost use Rattle.liveregion.specs.declared.LiveRegion.{LiveRegion};
+ghost use Rattle.regionmap.specs.Words.{wrap64};
+ghost use Rattle.firstpiece.specs.Piece.{PieceIn};
+ghost use Rattle.publish.specs.Queue.{published};
+ghost use Rattle.step.specs.Rules.{firstOf, rangeOf, opOf};
+ghost use Rattle.step.specs.Step.{raised, awaitsNow, completionOf, rejection as rejectionOf};
+ghost use Rattle.settle.specs.declared.Finished.the-variants.{Next as next};
+ghost use Rattle.carry.specs.Carried.{turnedPool, pushed, ownerWord, poisonedBy, AsksFor, TouchedBy, Carried};
 use called::Touched;
 use completion::Buffer;
 use completion::Completion;
@@ -12,6 +21,7 @@ use completion::Outcome;
 use completion::Range;
 use completion::Refusal;
 use completion::Reply;
+use domain::Op;
 use domain::OsError;
 use domain::Poisoned;
 use liveregion::LiveRegion;
@@ -22,6 +32,8 @@ use model::Opening;
 use model::Row;
 use model::Split;
 use optable::Frees;
+use regionmap::FoundPiece;
+use regionmap::Position;
 use settle::Finished;
 use settle::Turn;
 
@@ -97,6 +109,39 @@ fn awaits_now(row: Row, awaits: Awaits) -> Row
     }
 }
 
+// Where an operation's range starts.
+fn first_of(kind: Kind) -> Position
+    ensures { λ r. ⌜ r ≡ firstOf kind ⌝ }
+{
+    match kind {
+        Kind::Page { start, end: _ } => start,
+        Kind::Read { start, end: _ } => start,
+    }
+}
+
+// The piece of an operation at what is done, of what is left, found in its region's words.
+pub fn piece_of(store: &[u64], handle: u64, kind: Kind, s: Split) -> FoundPiece
+    ensures { λ r. ⌜ PieceIn (now (store .entry)) handle (wrap64 (firstOf kind .0 + s .done)) (s .total - s .done) r ⌝ }
+{
+    let start = first_of(kind);
+    let at = Position(std::num::wrapping_add_u64(start.0, s.done));
+    firstpiece::first_piece(store, handle, at, settle::left(s))
+}
+
+// The next piece is asked for.
+fn ask_piece(store: &[u64], row: Row, qtag: u64, kind: Kind, s: Split) -> Reply
+    ensures { λ r. ⌜ AsksFor (now (store .entry)) row qtag (awaitsPiece kind s) r ⌝ }
+{
+    let piece = piece_of(store, row.handle, kind, s);
+    let offset = piece.offset;
+    Reply::Piece {
+        qtag,
+        offset,
+        count: piece.count,
+        buffer: row.buffer,
+    }
+}
+
 // What is asked of the host next: the next piece, or the flush.
 fn asks_for(store: &[u64], row: Row, qtag: u64, awaits: Awaits) -> Reply
     ensures { λ r. ⌜ AsksFor (now (store .entry)) row qtag awaits r ⌝ }
@@ -110,7 +155,7 @@ fn asks_for(store: &[u64], row: Row, qtag: u64, awaits: Awaits) -> Reply
 
 // An operation goes on: its bytes turn, and it awaits its next piece or its flush.
 fn go_on(awaits: Awaits, t: Turn, qtag: u64, row: Row, capacity: u64, store: &[u64], pool: &mut [u8]) -> Touched
-    ensures { λ r. ⌜ TouchedBy (next awaits t) qtag row blank (now (store .entry)) r × (now (pool .exit) ≡ turnedPool capacity (row .buffer) t (now (pool .entry))) ⌝ }
+    ensures { λ r. ⌜ ((g : LiveRegion) → TouchedBy (next awaits t) qtag row g (now (store .entry)) r) × (now (pool .exit) ≡ turnedPool capacity (row .buffer) t (now (pool .entry))) ⌝ }
 {
     turn(pool, capacity, row.buffer, t);
     Touched {
@@ -121,11 +166,50 @@ fn go_on(awaits: Awaits, t: Turn, qtag: u64, row: Row, capacity: u64, store: &[u
     }
 }
 
-// An operation is complete (Table::release, publish): its row is freed, at the next generation, and its completion is ready.
-fn complete(outcome: Outcome, buf: Buffer, cause: Poisoned, row: Row, depth: u64, ready_count: u64, store: &mut [u64], ready: &mut [u64], owners: &mut [u64])
+// The reply to a refused first piece: the host gets Io or QueueFull, the range, and its buffer.
+fn reject(id: u64, kind: Kind, raw: OsError, buf: Buffer) -> Reply
+    ensures { λ r. ⌜ ((g : Plan) → g .id ≡ id → r ≡ rejectedReply (rangeOf g kind) (opOf kind) raw buf) ⌝ }
+{
+    match kind {
+        Kind::Page { start, end } => Reply::Rejected {
+            range: Range {
+                region: id,
+                start,
+                end,
+            },
+            op: Op::Write,
+            raw,
+            buf,
+        },
+        Kind::Read { start, end } => Reply::Rejected {
+            range: Range {
+                region: id,
+                start,
+                end,
+            },
+            op: Op::Read,
+            raw,
+            buf,
+        },
+    }
+}
+
+// .. of a row that awaits a piece; only such a row's is refused.
+fn rejection(id: u64, awaits: Awaits, raw: OsError, buf: Buffer) -> Reply
+    ensures { λ r. ⌜ ((g : Plan) → g .id ≡ id → r ≡ rejectionOf g awaits raw buf) ⌝ }
+{
+    match awaits {
+        Awaits::Piece(kind, _) => reject(id, kind, raw, buf),
+        _ => Reply::No(Refusal::NotAwaited),
+    }
+}
+
+// A completion is ready (publish): who has its buffer, and the store's poison.
+fn complete(outcome: Outcome, buf: Buffer, cause: Poisoned, row: Row, depth: u64, count: u64, store: &mut [u64], ready: &mut [u64], owners: &mut [u64])
+    ensures { λ _. ⌜ (now (store .exit) ≡ poisonedBy cause (now (store .entry))) × (now (ready .exit) ≡ published depth count (completionOf row outcome buf) (now (ready .entry))) × (now (owners .exit) ≡ set (now (owners .entry)) (row .buffer) (ownerWord 1 buf)) ⌝ }
 {
     let tag = row.tag;
-    publish::publish(ready, depth, ready_count, Completion { tag, outcome, buf });
+    publish::publish(ready, depth, count, Completion { tag, outcome, buf });
     own(owners, row.buffer, 1, buf);
     poison(store, cause);
 }
