@@ -59,4 +59,7 @@ figures = record {
   synced-7 = refl;
   refused-first = refl;
   lost-buffer = refl;
+  unknown-tag = refl;
+  not-awaited = refl;
+  above-the-piece = refl;
 }

@@ -192,3 +192,7 @@ pub record Figures : Type 0 where
   -- ours: a first piece refused keeps the generation and poisons nothing, a lost buffer is never accepted again
   pub refused-first : replyAfter (Write (asking 512 512) ∷ Answer 0 Refused true 0 ∷ []) (Write (asking 512 512)) ≡ piece 0 (offsetOf 1536) 512 0
   pub lost-buffer : numberOf (replyAfter (ReadPage (asking 512 512) ∷ Answer 0 (Count 512) false 0 ∷ Take ∷ []) (ReadPage (asking 512 512))) ≡ some 11
+  -- ours: 14, 15 and 16, in this order
+  pub unknown-tag : numberOf (replyAfter [] (answers 0 5000)) ≡ some 14
+  pub not-awaited : numberOf (replyAfter (Write (asking 512 512) ∷ []) (Flushed 0 (Need 1))) ≡ some 15
+  pub above-the-piece : numberOf (replyAfter (Write (asking 512 1024) ∷ []) (answers 0 513)) ≡ some 16
