@@ -1,4 +1,5 @@
--- What the proofs of this crate share: a count that is written, a receipt that is synced, an answer that is no count, a sum that fits.
+-- What the proofs of this crate and of finish share: a count that is written, a receipt that is synced, a sum that fits, an answer that is no count,
+-- an end and a ticket by their parts.
 use mathlib.Core.Path.{_≡_, refl, sym, ap, _∙_}
 use mathlib.Core.Logic.{⊎-elim}
 use mathlib.Core.Bool.{Bool, true, false, not, _&&_, _||_}
@@ -12,13 +13,21 @@ use denote.Enum.Declared.{tagOf}
 use borrow.Author.Tests.{leb-true, leb-false, eqb-true, eqb-false, eq-eqb, ne-eqb}
 use lib.Dec.{leb, eqb}
 use Rattle.layout.proofs.Tests.{true-or-false}
+use Rattle.regionmap.specs.declared.Position.{Position}
+use Rattle.regionmap.specs.Map.{Map}
 use Rattle.domain.specs.declared.FirstCause.{FirstCause}
+use Rattle.domain.specs.Domain.{needAfter}
 use Rattle.platform.specs.declared.Answer.{Answer}
 use Rattle.platform.specs.declared.Answer.the-variants.{Count, Error, Refused, RefusedWith}
 use Rattle.platform.proofs.Answer.{the-type}
+use Rattle.completion.specs.declared.WriteTicket.{WriteTicket}
 use Rattle.completion.specs.declared.Outcome.{Outcome}
 use Rattle.completion.specs.declared.Buffer.{Buffer}
-use Rattle.step.specs.Rules.{Fate, Fate.ends}
+use Rattle.model.specs.declared.Opening.{Opening}
+use Rattle.model.specs.declared.Kind.the-variants.{Page}
+use Rattle.liveregion.specs.declared.LiveRegion.{LiveRegion}
+use Rattle.step.specs.Rules.{Fate, Fate.ends, firstOf, lastOf, ticketOf}
+use Rattle.settle.specs.Finished.{planWith}
 
 -- ---- tests
 
@@ -36,11 +45,14 @@ module _ (done total n : ℕ) where
   past : total < done → false ≡ eqb (done + n) total
   past l = sym (ne-eqb (done + n) total (λ e. omega (arith, l, e)))
 
-  pub fills : (leb done total && eqb n (total - done)) ≡ eqb (done + n) total
-  fills =
+  both-ways : (leb done total && eqb n (total - done)) ≡ eqb (done + n) total
+  both-ways =
       ⊎-elim (λ (t : leb done total ≡ true). ap (λ (b : Bool). b && eqb n (total - done)) t ∙ within (leb-true done total t))
       (λ (f : leb done total ≡ false). ap (λ (b : Bool). b && eqb n (total - done)) f ∙ past (leb-false done total f))
       (true-or-false (leb done total))
+
+  pub fills : (left : ℕ) (r : Bool) → left ≡ total - done → r ≡ (leb done total && eqb n left) → r ≡ eqb (done + n) total
+  fills left r e h = h ∙ ap (λ (k : ℕ). leb done total && eqb n k) e ∙ both-ways
 
 -- neither holds just where each does not
 pub neither : (a b : Bool) → (not a && not b) ≡ not (a || b)
@@ -71,3 +83,12 @@ no-count P error refused with (RefusedWith e media) w = with e media
 -- two ends of the same cause are the same where their parts are
 pub same-end : {x y : Outcome} {b d : Buffer} {l k : List ℕ} {cause : Option FirstCause} → x ≡ y → b ≡ d → l ≡ k → _≡_ {A = Fate} (ends x b l cause) (ends y d k cause)
 same-end {cause = cause} p q r = λ i. ends (p i) (q i) (r i) cause
+
+-- ---- tickets
+
+-- a ticket of its parts
+pub ticket-of : (o : Opening) (g : LiveRegion) (m : Map) (start end : Position) (flushes generation need : ℕ) → generation ≡ g .generation → need ≡ needAfter flushes
+    → _≡_ {A = WriteTicket} (record { volume = o .volume; region = g .id; generation = generation; start = start; end = end; need = need; epoch = o .epoch }) (ticketOf o (planWith g m) (Page start end) flushes)
+unfolding ticketOf planWith firstOf lastOf
+ticket-of o g m start end flushes generation need p q =
+    λ i. record { volume = o .volume; region = g .id; generation = p i; start = start; end = end; need = q i; epoch = o .epoch }

@@ -174,10 +174,11 @@ fn read_length(s: Split, answer: Answer) -> u64
 fn ticket(o: Opening, g: LiveRegion, start: Position, end: Position, flushes: u64) -> WriteTicket
     ensures { λ r. ⌜ ((m : Map) → g .generation < 2 ^ 32 → r ≡ ticketOf o (planWith g m) (page start end) flushes) ⌝ }
 {
+    let generation = (g.generation % 4294967296) as u32;
     WriteTicket {
         volume: o.volume,
         region: g.id,
-        generation: (g.generation % 4294967296) as u32,
+        generation,
         start,
         end,
         need: domain::ticket(flushes),

@@ -23,7 +23,9 @@ both-requires-2 c κs = search needs
 returns : tie.Need-returns
 unfolding isWritten
 returns c =
-    rw (c .before .before .before .before .before .answer .given .1, c .both2 .ensures, c .before .both .ensures, c .before .before .left .ensures, fills)
+    let s = c .before .before .before .before .before .before .before .args .s in
+    let count = c .before .before .before .before .before .answer .given in
+    rw (count .1, c .both2 .ensures, fills (s .done) (s .total) (count .0 .0) _ _ (c .before .before .left .ensures) (c .before .both .ensures))
 
 returns-2 : tie.Need-returns-2
 unfolding isWritten

@@ -6,8 +6,8 @@ use borrow.Author.Needs.{needs}
 use Rattle.settle.proofs.ticket.Statement.{statement}
 use Rattle.settle.proofs.ticket.Tie as tie
 
-cast-t7 : tie.Need-cast-t7
-cast-t7 c = search needs
+cast-generation : tie.Need-cast-generation
+cast-generation c = search needs
 
 ticket-requires : tie.Need-ticket-requires
 ticket-requires c κs = search needs
@@ -17,4 +17,4 @@ unfolding ticketOf planWith firstOf lastOf
 returns c = λ m short. rw (mod-eq-of-lt short, c .ticket .ensures)
 
 pub ticket-spec : {M : Type 1} → statement M
-ticket-spec = tie.close (tie.spec cast-t7 ticket-requires returns)
+ticket-spec = tie.close (tie.spec cast-generation ticket-requires returns)
