@@ -1,0 +1,4 @@
+-- Proofs about the definitions of specs/.
+pub mod Words
+pub mod Places
+pub mod Laws
