@@ -2,7 +2,8 @@
 // document 01 restates them), and the calls that set them.
 ghost use mathlib.Core.Path.{_≡_};
 ghost use Rattle.model.specs.declared.Call.the-variants.{SetGate as setGate, SetReadOnly as setReadOnly, SetForced as setForced, ReportPoison as reportPoison};
-ghost use Rattle.marks.specs.Marks.{gateWord, markedIn, poisonedIn, MarksTo};
+ghost use Rattle.model.specs.Memory.{word01};
+ghost use Rattle.marks.specs.Marks.{gateWord, markedIn, poisonedIn, SetsMark, MarksTo};
 use called::Touched;
 use completion::Context;
 use completion::Refusal;
