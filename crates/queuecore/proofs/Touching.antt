@@ -1,7 +1,6 @@
 -- A submission as a whole: what `issue` leaves, put back into the rows and the counts, is one step of every sound table; what is turned away leaves
 -- all as it was. By cases on the verdict.
 use mathlib.Core.Path.{_≡_, refl, sym, ap, _∙_, subst}
-use mathlib.Core.Logic.{_⊎_, inl, inr}
 use mathlib.Core.Bool.{Bool, true, false}
 use mathlib.Core.List.{List}
 use Prim.Native.Nat.{ℕ, _+_, _*_, _<_, _%_, _^_}
@@ -10,7 +9,7 @@ use native.Mathlib.Omega.{arith}
 use lib.ListN.{length, getD, set, length-set}
 use lib.Seq.{set-getD, drop-set-lt, getD-take}
 use Rattle.layout.specs.Pick.{pick}
-use Rattle.layout.proofs.Tests.{true-or-false}
+use Rattle.layout.proofs.Tests.{not-both}
 use Rattle.regionmap.specs.declared.FoundPiece.{FoundPiece}
 use Rattle.regionmap.specs.Words.{wrap64}
 use Rattle.completion.specs.declared.Refusal.{Refusal}
@@ -21,23 +20,24 @@ use Rattle.model.specs.declared.Counts.{Counts}
 use Rattle.model.specs.declared.Row.{Row}
 use Rattle.model.specs.declared.Request.{Request}
 use Rattle.model.specs.declared.Call.{Call}
+use Rattle.model.specs.declared.Submit.{Submit}
 use Rattle.model.specs.declared.Kind.{Kind}
 use Rattle.model.specs.declared.Asked.{Asked}
 use Rattle.model.specs.declared.Asked.the-variants.{Yes, No}
 use Rattle.model.specs.declared.Verdict.{Verdict}
 use Rattle.model.specs.declared.Verdict.the-variants.{No as refuses, Accept}
 use Rattle.model.specs.State.{State, freed}
-use Rattle.model.specs.Memory.{Lent, lengthsOf, sameLengths, settingsIn, stateIn}
-use Rattle.step.specs.Step.{queueTag, claimedBy, topOf, rowAt, oneMore, accepted, verdictOf, submitted, called, step}
+use Rattle.model.specs.Memory.{Lent, lengthsOf, lengthsIn, sameLengths, settingsIn, stateIn}
+use Rattle.step.specs.Step.{queueTag, claimedBy, topOf, rowAt, oneMore, accepted, verdictOf, submitted, eqLengths, called, step}
 use Rattle.step.specs.Sound.{Sound}
 use Rattle.step.proofs.Answers.{Passed}
 use Rattle.step.proofs.Taken as stack
 use Rattle.step.proofs.Memory.{storedIn, taken-in, lengths-same}
-use Rattle.optable.specs.Counted.{acceptedIf}
+use Rattle.optable.specs.Counted.{acceptedIf, releasedBy}
 use Rattle.called.specs.declared.Touched.{Touched}
-use Rattle.submission.specs.Decided.{Decides}
-use Rattle.called.specs.Called.{lentOf, Beyond, CallsTo, TouchesTo}
 use Rattle.submission.proofs.Deciding.{top-is}
+use Rattle.called.specs.Called.{asCall, lentOf, awayWith, placeOf, Beyond, CallsTo, ArmTo, TouchesTo}
+use Rattle.submission.specs.Decided.{Decides}
 use Rattle.issue.specs.Touched.{issued, ownersAfter}
 
 -- a piece turns nobody away, and a refusal accepts nobody
@@ -96,27 +96,27 @@ module _ (c : Counts) (rows : List Row) (store free ready owners pool : List ℕ
   l′ v row = lentOf (set rows at (t v row .row)) store free ready (ownersAfter v q owners) pool
 
   abbrev c′ : Verdict → Row → Counts
-  c′ v row = acceptedIf (t v row .accepts) c
+  c′ v row = releasedBy (t v row .frees) (acceptedIf (t v row .accepts) c)
 
   -- a refused submission puts back the row as it was found
   same-rows : (row : Row) → row ≡ getD rows at (freed 0) → set rows at row ≡ rows
   same-rows row found = ap (set rows at) found ∙ set-getD rows at (freed 0)
 
   refused-lent : (f : Refusal) (row : Row) → row ≡ getD rows at (freed 0) → l′ (refuses f) row ≡ l
-  unfolding issued ownersAfter
+  unfolding issued ownersAfter awayWith
   refused-lent f row found = λ i. lentOf (same-rows row found i) store free ready owners pool
 
   refused-counts : (f : Refusal) (row : Row) → c′ (refuses f) row ≡ c
-  unfolding issued acceptedIf pick
+  unfolding issued awayWith releasedBy acceptedIf pick
   refused-counts f row = refl
 
   -- the state and the reply of a refusal
   refused-step : (f : Refusal) (row : Row) → row ≡ getD rows at (freed 0) → _≡_ {A = State × Reply} (s, turnedAway f) (stateIn (c′ (refuses f) row) (l′ (refuses f) row), t (refuses f) row .reply)
-  unfolding issued
+  unfolding issued awayWith
   refused-step f row found = λ i. (stateIn (sym (refused-counts f row) i) (sym (refused-lent f row found) i), turnedAway f)
 
   turned-away : (v : Verdict) (row : Row) → row ≡ getD rows at (freed 0) → (f : Refusal) → t v row .reply ≡ turnedAway f → (c′ v row ≡ c) × (l′ v row ≡ l)
-  unfolding issued
+  unfolding issued awayWith
   turned-away (refuses g) row found f e = (refused-counts g row, refused-lent g row found)
   turned-away (Accept r k p) row found f e = absurd (subst Away (sym e) tt)
 
@@ -141,7 +141,7 @@ module _ (c : Counts) (rows : List Row) (store free ready owners pool : List ℕ
     found-at = found ∙ ap (λ (j : ℕ). getD rows j (freed 0)) (sym row-at) ∙ sym (getD-take (settingsIn store .depth) rows r (freed 0) below′)
 
     counts-are : c′ (Accept r k p) row ≡ oneMore c
-    unfolding issued acceptedIf pick oneMore wrap64 stateIn
+    unfolding issued releasedBy acceptedIf pick oneMore wrap64 stateIn
     counts-are =
         let room = w .passed .room in
         let left = w .passed .left in
@@ -200,49 +200,76 @@ module _ (c : Counts) (rows : List Row) (store free ready owners pool : List ℕ
     went-beyond (refuses f) w = refused-beyond (l′ (refuses f) row) (refused-lent f row found)
     went-beyond (Accept r k p) w = accepted-beyond i r k p (w tt) row found (top-is c rows store free ready owners pool i same q (w tt .passed))
 
-  module _ (verdict : State → Request → Verdict) (call : Call) (is : (x : State) → called x call ≡ submitted x q (verdict x q)) (goes : (x : State) (v : Verdict) → v ≡ verdict x q → Accepts v → Went x q v)
-      (v : Verdict) (d : Decides verdict c (lengthsOf l) store free owners q v) (row : Row) (found : row ≡ getD rows at (freed 0)) where
+  module _ (same : sameLengths (lengthsOf l) store ≡ true) (verdict : State → Request → Verdict) (call : Call) (is : (x : State) → called x call ≡ submitted x q (verdict x q))
+      (goes : (x : State) (v : Verdict) → v ≡ verdict x q → Accepts v → Went x q v) (v : Verdict) (d : Decides verdict c store free owners q v) (row : Row) (found : row ≡ getD rows at (freed 0)) where
     as-step : Sound s → step s (lengthsOf l) call ≡ (stateIn (c′ v row) (l′ v row), t v row .reply)
     unfolding step pick stateIn
-    as-step i = by-case (true-or-false (sameLengths (lengthsOf l) store))
-      where
-        by-case : (sameLengths (lengthsOf l) store ≡ true) ⊎ (sameLengths (lengthsOf l) store ≡ false) → step s (lengthsOf l) call ≡ (stateIn (c′ v row) (l′ v row), t v row .reply)
-        by-case (inl same) =
-            let e = d .as-defined same rows ready pool refl i in
-            ap (λ (b : Bool). pick b (called s call) (s, turnedAway Unfit)) (sym (lengths-same c l i) ∙ same)
-            ∙ is s
-            ∙ ap (submitted s q) (sym e)
-            ∙ went-step i same row found v (goes s v e)
-        by-case (inr other) =
-            let e = d .another-length other in
-            ap (λ (b : Bool). pick b (called s call) (s, turnedAway Unfit)) (sym (lengths-same c l i) ∙ other)
-            ∙ refused-step Unfit row found
-            ∙ λ j. (stateIn (c′ (sym e j) row) (l′ (sym e j) row), t (sym e j) row .reply)
-
-    beyond : Sound s → Beyond (settingsIn store) l (l′ v row)
-    beyond i = by-case (true-or-false (sameLengths (lengthsOf l) store))
-      where
-        by-case : (sameLengths (lengthsOf l) store ≡ true) ⊎ (sameLengths (lengthsOf l) store ≡ false) → Beyond (settingsIn store) l (l′ v row)
-        by-case (inl same) = went-beyond i same row found v (goes s v (d .as-defined same rows ready pool refl i))
-        by-case (inr other) = refused-beyond (l′ v row) (ap (λ (x : Verdict). l′ x row) (d .another-length other) ∙ refused-lent Unfit row found)
+    as-step i =
+        let e = d rows ready pool same i in
+        ap (λ (b : Bool). pick b (called s call) (s, turnedAway Unfit)) (sym (lengths-same c l i) ∙ same)
+        ∙ is s
+        ∙ ap (submitted s q) (sym e)
+        ∙ went-step i same row found v (goes s v e)
 
     pub calls : CallsTo call c l (t v row .reply) (c′ v row) (l′ v row)
-    unfolding issued
-    calls = record { another-length = λ e. ap (λ (x : Verdict). t x row .reply) (d .another-length e); turned-away = turned-away v row found; as-step = as-step; beyond = beyond }
+    calls = record {
+      another-length = λ e. absurd (not-both same e);
+      turned-away = turned-away v row found;
+      as-step = as-step;
+      beyond = λ i. went-beyond i same row found v (goes s v (d rows ready pool same i));
+    }
 
 -- ---- a verdict of either kind
 
 pub went : (asked : Asked) (s : State) (k : Kind) (q : Request) → (asked ≡ Yes → Passed s q) → (v : Verdict) → v ≡ verdictOf asked s k q → Accepts v → Went s q v
 went asked s k q passed v e a = record { passed = passed (accepts-yes asked s k q v e a); top = accepts-top asked s k q v e a }
 
--- the call, the verdict's outcome and the owners as the code has them, and the rows' number as it was given
-pub touches : (verdict : State → Request → Verdict) (call given : Call) (q : Request) → call ≡ given → ((x : State) → called x given ≡ submitted x q (verdict x q)) → ((x : State) (v : Verdict) → v ≡ verdict x q → Accepts v → Went x q v)
-    → (c : Counts) (n : ℕ) (store free ready owners pool : List ℕ) (v : Verdict) → Decides verdict c (record { rows = n; store = length store; free = length free; ready = length ready; owners = length owners; pool = length pool }) store free owners q v
+-- a submission, with the verdict's outcome and the owners as the code has them
+pub submits : (verdict : State → Request → Verdict) (call : Call) (q : Request) → ((x : State) → called x call ≡ submitted x q (verdict x q)) → ((x : State) (v : Verdict) → v ≡ verdict x q → Accepts v → Went x q v)
+    → (c : Counts) (n : ℕ) (store free owners : List ℕ) → placeOf call c free ≡ getD free (c .live) 0 → (v : Verdict) → Decides verdict c store free owners q v
     → (row : Row) (o : Touched) (owners′ : List ℕ) → o ≡ issued v row (c .submissions) q → owners′ ≡ ownersAfter v q owners
-    → TouchesTo call row c n store free ready owners pool o store free ready owners′ pool
-unfolding lengthsOf
-touches verdict call given q same is goes c n store free ready owners pool v d row o owners′ e f rows len found =
-    subst (λ (x : Call × (Touched × List ℕ)). CallsTo (x .0) c (lentOf rows store free ready owners pool) (x .1 .0 .reply) (acceptedIf (x .1 .0 .accepts) c) (lentOf (set rows (getD free (c .live) 0) (x .1 .0 .row)) store free ready (x .1 .1) pool))
-    (λ j. (sym same j, (sym e j, sym f j)))
-    (calls c rows store free ready owners pool q verdict given is goes v
-    (subst (λ (k : ℕ). Decides verdict c (record { rows = k; store = length store; free = length free; ready = length ready; owners = length owners; pool = length pool }) store free owners q v) (sym len) d) row found)
+    → (ready pool : List ℕ) → ArmTo call row c n store free ready owners pool o store free ready owners′ pool
+submits verdict call q is goes c n store free owners top v d row o owners′ e f ready pool rows len found same =
+    subst (λ (x : ℕ × (Touched × List ℕ)). CallsTo call c (lentOf rows store free ready owners pool) (x .1 .0 .reply) (releasedBy (x .1 .0 .frees) (acceptedIf (x .1 .0 .accepts) c)) (lentOf (set rows (x .0) (x .1 .0 .row)) store free ready (x .1 .1) pool))
+    (λ j. (sym top j, (sym e j, sym f j)))
+    (calls c rows store free ready owners pool q same verdict call is goes v d row (found ∙ ap (λ (k : ℕ). getD rows k (freed 0)) top))
+
+-- a submission that is known by its kind
+pub as-known : (x y : Submit) → x ≡ y → (row : Row) (c : Counts) (n : ℕ) (store free ready owners pool : List ℕ) (o : Touched) (owners′ : List ℕ)
+    → TouchesTo (asCall y) row c n store free ready owners pool o store free ready owners′ pool → TouchesTo (asCall x) row c n store free ready owners pool o store free ready owners′ pool
+as-known x y e row c n store free ready owners pool o owners′ t =
+    subst (λ (z : Submit). TouchesTo (asCall z) row c n store free ready owners pool o store free ready owners′ pool) (sym e) t
+
+-- ---- another length
+
+-- a call that is turned away with 13 leaves the row, put back as it was found, and all else
+module _ (call : Call) (row : Row) (c : Counts) (rows : List Row) (store free ready owners pool : List ℕ) (found : row ≡ getD rows (placeOf call c free) (freed 0))
+    (other : sameLengths (lengthsOf (lentOf rows store free ready owners pool)) store ≡ false) where
+  abbrev lent : Lent
+  lent = lentOf rows store free ready owners pool
+
+  put-back : lentOf (set rows (placeOf call c free) row) store free ready owners pool ≡ lent
+  put-back = ap (λ (rs : List Row). lentOf rs store free ready owners pool) (ap (set rows (placeOf call c free)) found ∙ set-getD rows (placeOf call c free) (freed 0))
+
+  another-length-step : Sound (stateIn c lent) → step (stateIn c lent) (lengthsOf lent) call ≡ (stateIn c lent, turnedAway Unfit)
+  unfolding step pick stateIn
+  another-length-step i = ap (λ (b : Bool). pick b (called (stateIn c lent) call) (stateIn c lent, turnedAway Unfit)) (sym (lengths-same c lent i) ∙ other)
+
+  nothing-changed : CallsTo call c lent (turnedAway Unfit) c lent
+  nothing-changed = record {
+    another-length = λ _. refl;
+    turned-away = λ f x. (refl, refl);
+    as-step = another-length-step;
+    beyond = λ i. record { lengths = refl; rows = refl; store = refl; free = refl; ready = refl; owners = refl };
+  }
+
+  pub unfit-here : CallsTo call c lent (awayWith row Unfit .reply) (releasedBy (awayWith row Unfit .frees) (acceptedIf (awayWith row Unfit .accepts) c)) (lentOf (set rows (placeOf call c free) (awayWith row Unfit .row)) store free ready owners pool)
+  unfolding awayWith releasedBy acceptedIf pick
+  unfit-here = subst (CallsTo call c lent (turnedAway Unfit) c) (sym put-back) nothing-changed
+
+pub unfit : (call : Call) (row : Row) (c : Counts) (n : ℕ) (store free ready owners pool : List ℕ) (o : Touched) → o ≡ awayWith row Unfit
+    → ((rows : List Row) → length rows ≡ n → sameLengths (lengthsOf (lentOf rows store free ready owners pool)) store ≡ false)
+    → TouchesTo call row c n store free ready owners pool o store free ready owners pool
+unfit call row c n store free ready owners pool o e other rows len found =
+    subst (λ (x : Touched). CallsTo call c (lentOf rows store free ready owners pool) (x .reply) (releasedBy (x .frees) (acceptedIf (x .accepts) c)) (lentOf (set rows (placeOf call c free) (x .row)) store free ready owners pool))
+    (sym e) (unfit-here call row c rows store free ready owners pool found (other rows len))

@@ -48,7 +48,7 @@ lent-map l k = ap (λ (n : ℕ). take n (drop k l)) (let e : k + 68 - k ≡ 68 =
 
 returns-3 : tie.Need-returns-3
 returns-3 c =
-    let a = c .before .before .before .before .before .before .args in
+    let a = c .before .before .before .before .before .args in
     λ inside lies.
     subst (λ (ws : List ℕ). HoldsMap ws → c .piece-at .result ≡ pieceFound (mapIn ws) (a .pos .0) (a .left)) (lent-map (a .store .now) (50 + 70 * a .handle)) (c .piece-at .ensures) lies
 

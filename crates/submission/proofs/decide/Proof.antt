@@ -41,8 +41,8 @@ returns c =
 returns-2 : tie.Need-returns-2
 unfolding verdictWith
 returns-2 c =
-    let a = c .before .before .before .before .before .before .args in
-    record { first = c .first-piece .result; found = λ _. c .first-piece .ensures; verdict = ap (λ (r : ℕ). Accept r (a .kind) (c .first-piece .result)) (c .before .top .ensures) ∙ sym (ap (λ (t : Asked). verdictWith t (getD (a .free .now) (a .live) 0) (a .kind) (c .first-piece .result)) (c .before .before .enum-told .given .1)) }
+    let a = c .before .before .before .before .before .before .before .args in
+    record { first = c .first-piece .result; found = λ _. c .first-piece .ensures; verdict = ap (λ (r : ℕ). Accept r (a .kind) (c .first-piece .result)) (c .before .top .ensures) ∙ sym (ap (λ (t : Asked). verdictWith t (getD (a .free .now) (a .live) 0) (a .kind) (c .first-piece .result)) (c .before .before .before .enum-told .given .1)) }
 
 pub decide-spec : {M : Type 1} → statement M
 decide-spec =

@@ -20,7 +20,7 @@ decide-requires c κs = search needs
 returns : tie.Need-returns
 unfolding readVerdict
 returns c =
-    let a = c .before .before .before .before .args in
+    let a = c .before .before .before .before .before .before .before .args in
     decides readQuestions read-passed (λ q end. Read (startOf q) end) (a .counts) (a .store .now) (a .free .now) (a .owners .now) (a .q)
     (c .before .before .before .ask-read .result) (c .before .before .before .ask-read .ensures) (c .before .end-of .result) (c .before .end-of .ensures) (c .decide .result) (c .decide .ensures)
 

@@ -20,7 +20,7 @@ decide-requires c κs = search needs
 returns : tie.Need-returns
 unfolding writeVerdict
 returns c =
-    let a = c .before .before .before .before .args in
+    let a = c .before .before .before .before .before .before .before .args in
     decides writeQuestions write-passed (λ q end. Page (startOf q) end) (a .counts) (a .store .now) (a .free .now) (a .owners .now) (a .q)
     (c .before .before .before .ask-write .result) (c .before .before .before .ask-write .ensures) (c .before .end-of .result) (c .before .end-of .ensures) (c .decide .result) (c .decide .ensures)
 
