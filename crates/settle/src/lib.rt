@@ -175,13 +175,14 @@ fn ticket(o: Opening, g: LiveRegion, start: Position, end: Position, flushes: u6
     ensures { λ r. ⌜ ((m : Map) → g .generation < 2 ^ 32 → r ≡ ticketOf o (planWith g m) (page start end) flushes) ⌝ }
 {
     let generation = (g.generation % 4294967296) as u32;
+    let raised = domain::ticket(flushes);
     WriteTicket {
         volume: o.volume,
         region: g.id,
         generation,
         start,
         end,
-        need: domain::ticket(flushes),
+        need: raised,
         epoch: o.epoch,
     }
 }

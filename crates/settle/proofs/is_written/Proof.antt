@@ -1,8 +1,8 @@
 -- `settle::is_written` meets its contract: done + n is the total just where n is what is left; an answer that is no count is not written (Settling).
 use mathlib.Core.Path.{_≡_, refl}
-use Rattle.step.specs.Rules.{isWritten}
 use mathlib.Core.Bool.{false}
 use Rattle.platform.specs.declared.Answer.{Answer}
+use Rattle.step.specs.Rules.{isWritten}
 use Rattle.settle.proofs.Settling.{fills, no-count}
 use borrow.Author.Needs.{needs}
 use Rattle.settle.proofs.is_written.Statement.{statement}

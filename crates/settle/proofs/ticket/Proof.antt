@@ -1,7 +1,6 @@
 -- `settle::ticket` meets its contract: a generation below 2^32 is its lower 32 bits, and the need is what domain::ticket ensures.
 use native.Mathlib.Nat.{mod-eq-of-lt}
-use Rattle.step.specs.Rules.{firstOf, lastOf, ticketOf}
-use Rattle.settle.specs.Finished.{planWith}
+use Rattle.settle.proofs.Settling.{ticket-of}
 use borrow.Author.Needs.{needs}
 use Rattle.settle.proofs.ticket.Statement.{statement}
 use Rattle.settle.proofs.ticket.Tie as tie
@@ -13,8 +12,9 @@ ticket-requires : tie.Need-ticket-requires
 ticket-requires c κs = search needs
 
 returns : tie.Need-returns
-unfolding ticketOf planWith firstOf lastOf
-returns c = λ m short. rw (mod-eq-of-lt short, c .ticket .ensures)
+returns c =
+    let a = c .before .before .args in
+    λ m short. ticket-of (a .o) (a .g) m (a .start) (a .end) (a .flushes) _ _ (mod-eq-of-lt short) (c .ticket .ensures)
 
 pub ticket-spec : {M : Type 1} → statement M
 ticket-spec = tie.close (tie.spec cast-generation ticket-requires returns)
