@@ -1,5 +1,6 @@
 -- From what the parts of `call` ensure to what it ensures. `touch` ensures it of any rows among which the row found is the one to touch; the lent
--- ones are such rows, by what `top` and `find` give. Then the last rows and the last counts, as `claim` and `accept` leave them, are put in place.
+-- ones are such rows, by what `place` and `find` give. Then the last rows and the last counts, as `claim`, `accept` and `release` leave them, are put in
+-- place.
 use mathlib.Core.Path.{_≡_, refl, sym, subst}
 use mathlib.Core.List.{List}
 use Prim.Native.Nat.{ℕ}
@@ -9,9 +10,9 @@ use Rattle.model.specs.declared.Call.{Call}
 use Rattle.model.specs.declared.Counts.{Counts}
 use Rattle.model.specs.declared.Row.{Row}
 use Rattle.model.specs.State.{freed}
-use Rattle.optable.specs.Counted.{acceptedIf}
+use Rattle.optable.specs.Counted.{acceptedIf, releasedBy}
 use Rattle.called.specs.declared.Touched.{Touched}
-use Rattle.called.specs.Called.{lentOf, CallsTo, TouchesTo}
+use Rattle.called.specs.Called.{lentOf, placeOf, CallsTo, TouchesTo}
 use Rattle.submitter.proofs.Slices.{Words}
 
 -- what `touch` gives back, and leaves in the five slices
@@ -24,12 +25,12 @@ pub record Left : Type 0 where
   pub pool : List ℕ
 
 module _ (o : Call) (counts : RefT Counts) (rows : RefT (List Row)) (store free ready owners pool : Words) where
-  -- the counts, the number on top of the free stack, and the row that is found there
+  -- the counts, the place of the row to touch, and the row that is found there
   abbrev pub c : Counts
   c = counts .now
 
   abbrev pub place : ℕ
-  place = getD (free .now) (c .live) 0
+  place = placeOf o c (free .now)
 
   abbrev pub row : Row
   row = getD (rows .now) place (freed 0)
@@ -49,12 +50,12 @@ module _ (o : Call) (counts : RefT Counts) (rows : RefT (List Row)) (store free 
   abbrev pub Claimed : Left → List Row → Type 0
   Claimed x rows′ = (rows′ ≡ set (rows .now) place (x .touched .row)) × (length rows′ ≡ length (rows .now))
 
-  abbrev pub Accepted : Left → Counts → Type 0
-  Accepted x c′ = c′ ≡ acceptedIf (x .touched .accepts) c
+  abbrev pub Counted : Left → Counts → Type 0
+  Counted x c′ = c′ ≡ releasedBy (x .touched .frees) (acceptedIf (x .touched .accepts) c)
 
-  pub calls-to : (x : Left) (rows′ : List Row) (c′ : Counts) → Did x → Claimed x rows′ → Accepted x c′
+  pub calls-to : (x : Left) (rows′ : List Row) (c′ : Counts) → Did x → Claimed x rows′ → Counted x c′
       → CallsTo o c (lentOf (rows .now) (store .now) (free .now) (ready .now) (owners .now) (pool .now)) (x .touched .reply) c′ (lentOf rows′ (x .store) (x .free) (x .ready) (x .owners) (x .pool))
-  calls-to x rows′ c′ did claimed accepted =
-      subst (λ (d : Counts). CallsTo o c (lentOf (rows .now) (store .now) (free .now) (ready .now) (owners .now) (pool .now)) (x .touched .reply) d (lentOf rows′ (x .store) (x .free) (x .ready) (x .owners) (x .pool))) (sym accepted)
-      (subst (λ (ys : List Row). CallsTo o c (lentOf (rows .now) (store .now) (free .now) (ready .now) (owners .now) (pool .now)) (x .touched .reply) (acceptedIf (x .touched .accepts) c) (lentOf ys (x .store) (x .free) (x .ready) (x .owners) (x .pool)))
+  calls-to x rows′ c′ did claimed counted =
+      subst (λ (d : Counts). CallsTo o c (lentOf (rows .now) (store .now) (free .now) (ready .now) (owners .now) (pool .now)) (x .touched .reply) d (lentOf rows′ (x .store) (x .free) (x .ready) (x .owners) (x .pool))) (sym counted)
+      (subst (λ (ys : List Row). CallsTo o c (lentOf (rows .now) (store .now) (free .now) (ready .now) (owners .now) (pool .now)) (x .touched .reply) (releasedBy (x .touched .frees) (acceptedIf (x .touched .accepts) c)) (lentOf ys (x .store) (x .free) (x .ready) (x .owners) (x .pool)))
       (sym (claimed .0)) (did .touches (rows .now) refl refl))

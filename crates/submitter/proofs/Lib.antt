@@ -1,4 +1,5 @@
 -- What the proofs of the host's calls share.
+pub mod Again
 pub mod Calling
 pub mod Opening
 pub mod Passing

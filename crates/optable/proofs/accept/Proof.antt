@@ -1,15 +1,12 @@
 -- `optable::accept` meets its contract: one of the functions over lent counts, of whether an operation is accepted.
 use mathlib.Core.Path.{_≡_, refl}
-use mir.Syntax.{tyBool}
-use mir.Val.{vbool}
 use base.Logic.{emp}
 use contract.Monad.{factI}
 use contract.Running.{givenOf, tables, tablesOf}
-use denote.Plain.{Boolean, bool-makes, bool-tells}
 use denote.Triple.Spec.{tripleOf}
 use denote.Triple.Table.{entered, cited}
 use Rattle.optable.specs.Counted.{acceptedIf}
-use Rattle.optable.proofs.Counted.{Plain, Callee, meets}
+use Rattle.optable.proofs.Counted.{flag, Callee, meets}
 use Rattle.optable.proofs.accepted.Symbol as accepted-def
 use Rattle.optable.proofs.accepted.Symbol.{name as #optable·accepted}
 use Rattle.optable.proofs.accepted.Met as accepted-thm
@@ -17,9 +14,6 @@ use Rattle.optable.proofs.accept.Key.{name as #optable·accept}
 use Rattle.optable.proofs.accept as self
 use Rattle.optable.proofs.accept.Statement as stated
 use Rattle.optable.proofs.accept.Code as code
-
-abbrev flag : Plain
-flag = record { type = Boolean; mir = tyBool; value = vbool; spells = bool-tells; lies = λ 𝓤 H A W x is. (tt, tt); makes = λ 𝓤 H A W. bool-makes 𝓤 H A W }
 
 pub accept-spec : {M : Type 1} → stated.statement M
 unfolding code.routine tablesOf

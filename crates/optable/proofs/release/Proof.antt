@@ -5,11 +5,8 @@ use contract.Monad.{factI}
 use contract.Running.{givenOf, tables, tablesOf}
 use denote.Triple.Spec.{tripleOf}
 use denote.Triple.Table.{entered, cited}
-use denote.Enum.Laws as Enum
 use Rattle.optable.specs.Counted.{releasedBy}
-use Rattle.optable.proofs.Frees as Declared
-use Rattle.optable.proofs.Frees.Laws as Laws
-use Rattle.optable.proofs.Counted.{Plain, Callee, meets}
+use Rattle.optable.proofs.Counted.{frees, Callee, meets}
 use Rattle.optable.proofs.released.Symbol as released-def
 use Rattle.optable.proofs.released.Symbol.{name as #optable·released}
 use Rattle.optable.proofs.released.Met as released-thm
@@ -17,16 +14,6 @@ use Rattle.optable.proofs.release.Key.{name as #optable·release}
 use Rattle.optable.proofs.release as self
 use Rattle.optable.proofs.release.Statement as stated
 use Rattle.optable.proofs.release.Code as code
-
-abbrev frees : Plain
-frees = record {
-  type = Declared.the-row;
-  mir = Laws.mir;
-  value = Enum.val Declared.the-type Laws.the-laws;
-  spells = Enum.tells Declared.the-type Laws.the-laws;
-  lies = λ 𝓤 H A W x is. Enum.lawful Declared.the-type Laws.the-laws 𝓤 H A W tt .typed x _ is .0;
-  makes = λ 𝓤 H A W. Enum.makes Declared.the-type Laws.the-plain 𝓤 H A;
-}
 
 pub release-spec : {M : Type 1} → stated.statement M
 unfolding code.routine tablesOf
