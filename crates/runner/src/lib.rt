@@ -8,7 +8,7 @@ ghost use Rattle.runner.specs.Runner.{requestOf, Ran, Answers};
 ghost use Rattle.step.specs.Figures.{figuresOpening};
 use completion::Reply;
 use host::CalledIn;
-use model::Call;
+use model::Submit;
 use model::Counts;
 use model::Opening;
 use model::Request;
@@ -64,7 +64,7 @@ pub fn request(s: Submission) -> Request
 
 // The call is made, and its reply printed to the front of `out`.
 fn run(
-    call: Call,
+    call: Submit,
     counts: Counts,
     rows: [Row; 64],
     store: &mut [u64],
@@ -116,7 +116,7 @@ pub fn answer(
             printed: texts::bad_text(number, out),
         },
         Line::Write(s) => run(
-            Call::Write(request(s)),
+            Submit::Write(request(s)),
             counts,
             rows,
             store,
@@ -127,7 +127,7 @@ pub fn answer(
             out,
         ),
         Line::Read(s) => run(
-            Call::ReadPage(request(s)),
+            Submit::ReadPage(request(s)),
             counts,
             rows,
             store,

@@ -4,7 +4,7 @@
 use drawing::Drawn;
 use drawing::Tally;
 use host::CalledIn;
-use model::Call;
+use model::Submit;
 use model::Counts;
 use model::Request;
 use model::Row;
@@ -27,7 +27,7 @@ struct Going {
 
 // A call that is lent all of the pool, or a byte less, so that the reply is 13.
 fn lent_call(
-    call: Call,
+    call: Submit,
     all: bool,
     counts: Counts,
     rows: [Row; 64],
@@ -51,11 +51,11 @@ fn lent_call(
 }
 
 // A request as a read or a write.
-fn call_of(read: bool, q: Request) -> Call {
+fn call_of(read: bool, q: Request) -> Submit {
     if read {
-        return Call::ReadPage(q);
+        return Submit::ReadPage(q);
     }
-    Call::Write(q)
+    Submit::Write(q)
 }
 
 // One request is drawn and made, and its reply told; one in 32 that are not printed is lent another length of pool.

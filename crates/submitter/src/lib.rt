@@ -1,14 +1,14 @@
 // The calls that a host makes (store-io's submitter/mod.rs): the opening, and every call after it. Rows and counts are lent; what a call decides is
 // decided in queuecore, on values and words.
 ghost use mathlib.Core.Path.{_≡_};
-ghost use Rattle.called.specs.Called.{lentOf, CallsTo};
+ghost use Rattle.called.specs.Called.{asCall, lentOf, CallsTo};
 ghost use Rattle.submitter.specs.Open.{openedWith, OpensTo};
 use completion::Refusal;
 use completion::Reply;
-use model::Call;
 use model::Counts;
 use model::Opening;
 use model::Row;
+use model::Submit;
 
 // The reply to an opening: the table's counts, or 13.
 pub enum Opened {
@@ -53,7 +53,7 @@ pub fn open(
 // One call (Submitter::write, read_page, and the calls of queue_core.rs): the row that it touches is found, what the call does to it is decided, and it is
 // claimed, with the counts, as decided; a call that is turned away claims the row as it was.
 pub fn call(
-    call: Call,
+    call: Submit,
     counts: &mut Counts,
     rows: &mut [Row],
     store: &mut [u64],
@@ -62,7 +62,7 @@ pub fn call(
     owners: &mut [u64],
     pool: &mut [u8],
 ) -> Reply
-    ensures { λ r. ⌜ CallsTo call (now (counts .entry)) (lentOf (now (rows .entry)) (now (store .entry)) (now (free .entry)) (now (ready .entry)) (now (owners .entry)) (now (pool .entry))) r (now (counts .exit)) (lentOf (now (rows .exit)) (now (store .exit)) (now (free .exit)) (now (ready .exit)) (now (owners .exit)) (now (pool .exit))) ⌝ }
+    ensures { λ r. ⌜ CallsTo (asCall call) (now (counts .entry)) (lentOf (now (rows .entry)) (now (store .entry)) (now (free .entry)) (now (ready .entry)) (now (owners .entry)) (now (pool .entry))) r (now (counts .exit)) (lentOf (now (rows .exit)) (now (store .exit)) (now (free .exit)) (now (ready .exit)) (now (owners .exit)) (now (pool .exit))) ⌝ }
 {
     let c = *counts;
     let at = called::place(call, c, free) as usize;
