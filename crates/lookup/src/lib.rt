@@ -1,9 +1,8 @@
 // The lookups, which change nothing (store-io's optable.rs: writes_live; the mark of frontier.rs as document 01 restates it): one walk through the rows.
 ghost use mathlib.Core.Path.{_≡_};
-ghost use Prim.Native.Nat.{_<_, _^_};
 ghost use lib.ListN.{take};
 ghost use Rattle.step.specs.Step.{writesIn, isLive};
-ghost use Rattle.lookup.specs.Looked.{seenBy, lookedIn, markWrapped, repliesAs};
+ghost use Rattle.lookup.specs.Looked.{isPage, seenBy, lookedIn, markWrapped, repliesAs};
 use completion::Reply;
 use model::Awaits;
 use model::Counts;
@@ -52,7 +51,11 @@ pub fn seen(l: Looked, row: Row) -> Looked
 {
     let awaits = row.awaits;
     let writes = if writes_in(awaits) { true } else { l.writes };
-    let seq = if is_live(awaits) { layout::min(row.seq, l.oldest) } else { l.oldest };
+    let seq = if is_live(awaits) {
+        layout::min(row.seq, l.oldest)
+    } else {
+        l.oldest
+    };
     Looked {
         writes,
         oldest: seq,
@@ -63,7 +66,7 @@ pub fn seen(l: Looked, row: Row) -> Looked
 pub fn look(rows: &[Row], depth: usize, next: u64) -> Looked
     ensures { λ r. ⌜ r ≡ lookedIn next (take depth (now (rows .entry))) ⌝ }
 {
-    let mut i = smaller(depth, rows.len());
+    let mut i = optable::smaller(depth, rows.len());
     let mut l = Looked {
         writes: false,
         oldest: next,
