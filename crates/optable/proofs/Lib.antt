@@ -3,6 +3,7 @@ pub mod Called
 pub mod Counted
 pub mod Element
 pub mod Freed
+pub mod Least
 pub mod Opened
 pub mod Rows
 pub mod Tally
