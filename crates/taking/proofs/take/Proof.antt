@@ -1,0 +1,51 @@
+-- `taking::take` meets its contract: what its callees read, took and wrote.
+use Rattle.taking.proofs.Taking.{none-taken, one-taken}
+use borrow.Author.Needs.{needs}
+use Rattle.taking.proofs.take.Statement.{statement}
+use Rattle.taking.proofs.take.Tie as tie
+
+returns : tie.Need-returns
+returns c =
+    let a = c .before .before .before .before .before .args in
+    none-taken (a .row) (a .counts) (a .store .now) (a .ready .now) (a .owners .now) (c .if1 .taken)
+
+settings-requires : tie.Need-settings-requires
+settings-requires c κs = search needs
+
+oldest-requires : tie.Need-oldest-requires
+oldest-requires c κs = search needs
+
+pop-requires : tie.Need-pop-requires
+pop-requires c κs = search needs
+
+give-back-requires : tie.Need-give-back-requires
+give-back-requires c κs = search needs
+
+same-length : tie.Need-same-length
+same-length c = search needs
+
+same-length-2 : tie.Need-same-length-2
+same-length-2 c = search needs
+
+returns-2 : tie.Need-returns-2
+returns-2 c =
+    let back = c .before .before in
+    let popped = back .before .before .before .before in
+    let oldest = popped .before .before in
+    let settings = oldest .before .before in
+    let a = settings .before .before .before .before .before .before .args in
+    one-taken (a .row) (a .counts) (a .store .now) (a .ready .now) (a .owners .now) (settings .before .if1 .left) (settings .settings .result) (settings .settings .ensures)
+    (oldest .oldest .result) (oldest .oldest .ensures) _ _ (popped .pop .ensures) (back .give-back .ensures)
+
+pub take-spec : {M : Type 1} → statement M
+take-spec =
+    tie.close
+    (tie.spec
+    returns
+    settings-requires
+    oldest-requires
+    pop-requires
+    give-back-requires
+    same-length
+    same-length-2
+    returns-2)
