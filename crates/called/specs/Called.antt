@@ -15,10 +15,11 @@ use Rattle.model.specs.declared.Call.{Call}
 use Rattle.model.specs.declared.Call.the-variants.{Write, ReadPage, Answer, Flushed, Take, SetGate, SetReadOnly, SetForced, ReportPoison}
 use Rattle.model.specs.declared.Submit.{Submit}
 use Rattle.model.specs.declared.Submit.the-variants.{Write as WriteNow, ReadPage as ReadNow}
+use Rattle.model.specs.declared.Lookup.{Lookup}
 use Rattle.model.specs.State.{freed}
 use Rattle.model.specs.Opening.{storeWords, readyWords}
 use Rattle.model.specs.Memory.{Lent, lengthsOf, sameLengths, settingsIn, stateIn}
-use Rattle.step.specs.Step.{rowOf, step}
+use Rattle.step.specs.Step.{rowOf, step, look}
 use Rattle.step.specs.Sound.{Sound}
 use Rattle.optable.specs.declared.Frees.the-variants.{Nothing as none}
 use Rattle.optable.specs.Counted.{acceptedIf, releasedBy}
@@ -67,6 +68,11 @@ pub record CallsTo (call : Call) (c : Counts) (l : Lent) (r : Reply) (c′ : Cou
   -- of every table that calls have left: the reply and the next state are the step's
   pub as-step : Sound (stateIn c l) → step (stateIn c l) (lengthsOf l) call ≡ (stateIn c′ l′, r)
   pub beyond : Sound (stateIn c l) → Beyond (settingsIn (l .store)) l l′
+
+-- what a lookup gives: it changes nothing
+pub record LooksTo (x : Lookup) (c : Counts) (l : Lent) (r : Reply) : Type 0 where
+  pub another-length : sameLengths (lengthsOf l) (l .store) ≡ false → r ≡ turnedAway Unfit
+  pub as-look : Sound (stateIn c l) → r ≡ look (stateIn c l) (lengthsOf l) x
 
 -- with any rows among which the given one is the one to touch, the call as a whole
 abbrev pub TouchesTo : Call → Row → Counts → ℕ → List ℕ → List ℕ → List ℕ → List ℕ → List ℕ → Touched → List ℕ → List ℕ → List ℕ → List ℕ → List ℕ → Type 0

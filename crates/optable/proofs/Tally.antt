@@ -20,6 +20,9 @@ N = Declared.the-row
 abbrev pub ty : Ty
 ty = Laws.mir
 
+abbrev pub val : Counts → Val
+val = Struct.val Declared.the-type Laws.the-laws
+
 abbrev pub vals : Counts → List Val
 vals = Struct.vals Declared.the-type Laws.the-laws
 

@@ -94,3 +94,11 @@ module _ {M : Type 1} (𝓤 : URA M) (H : Heap 𝓤) (A : Atoms 𝓤) (W : Given
       qed W (later (some (λ (r : T .Denot). ((‵ (flft κ q) ⊛ ‵ ftrue) ⊛ ‵ (T .own r vs)) ⊛ raw (P r))) ∷ []) ∵ updating ! $ await ! tt $ pick ! (λ r.
       split ! $ move ! (1 ∷ []) $ use1 W (raw (fact 𝓤 (r ≡ y))) (tells r) $ heard ! (r ≡ y) (λ e. split ! $ move ! (1 ∷ []) $
       rewrite ! 0 (λ (z : T .Denot). ‵ (T .own z vs)) e refl $ move ! (1 ∷ []) $ split ! $ keep ! (2 ∷ 0 ∷ []) $ at-once ! $ done !))
+
+-- the same of any tokens
+module _ {M : Type 1} (𝓤 : URA M) (H : Heap 𝓤) (A : Atoms 𝓤) (W : Given 𝓤 H A) (T : RattleType) (y : T .Denot) (P : T .Denot → SProp 𝓤) (tells : (r : T .Denot) → ent 𝓤 (P r) (fact 𝓤 (r ≡ y))) (I : Item 𝓤) (vs : List Val) where
+  pub comes-beside : ent 𝓤 (H .⇛ (ex 𝓤 (λ (r : T .Denot). sep 𝓤 (sep 𝓤 (mean 𝓤 H A I) (sem 𝓤 H A (T .own r vs))) (P r)))) (H .⇛ (sep 𝓤 (sem 𝓤 H A (T .own y vs)) (mean 𝓤 H A I)))
+  comes-beside =
+      qed W (later (some (λ (r : T .Denot). (I ⊛ ‵ (T .own r vs)) ⊛ raw (P r))) ∷ []) ∵ updating ! $ await ! tt $ pick ! (λ r.
+      split ! $ move ! (1 ∷ []) $ use1 W (raw (fact 𝓤 (r ≡ y))) (tells r) $ heard ! (r ≡ y) (λ e. split ! $ move ! (1 ∷ []) $
+      rewrite ! 0 (λ (z : T .Denot). ‵ (T .own z vs)) e refl $ at-once ! $ done !))

@@ -1,11 +1,17 @@
-// The calls that a host makes (store-io's submitter/mod.rs): the opening, and every call after it. Rows and counts are lent; what a call decides is
+// The calls that a host makes (store-io's submitter/mod.rs): the opening, and every call and lookup after it. Rows and counts are lent; what a call decides is
 // decided in queuecore, on values and words.
 ghost use mathlib.Core.Path.{_≡_};
-ghost use Rattle.called.specs.Called.{asCall, lentOf, CallsTo};
+ghost use lib.ListN.{length};
+ghost use Rattle.called.specs.Called.{asCall, lentOf, CallsTo, LooksTo};
+ghost use Rattle.store.specs.Prepared.{lengthsWith};
 ghost use Rattle.submitter.specs.Open.{openedWith, OpensTo};
+ghost use Rattle.submitter.specs.Look.{fitOf, answerOf};
 use completion::Refusal;
 use completion::Reply;
+use lookup::Looked;
 use model::Counts;
+use model::Lengths;
+use model::Lookup;
 use model::Opening;
 use model::Row;
 use model::Submit;
@@ -72,4 +78,71 @@ pub fn call(
     optable::accept(counts, t.accepts);
     optable::release(counts, t.frees);
     t.reply
+}
+
+// Whether what is lent has the lengths of the opening, and the depth of the table then.
+struct Fit {
+    fits: bool,
+    depth: usize,
+}
+
+fn fitted(
+    rows: usize,
+    store: &[u64],
+    free: &[u64],
+    ready: &[u64],
+    owners: &[u64],
+    pool: &[u8],
+) -> Fit
+    ensures { λ r. ⌜ r ≡ fitOf (lengthsWith rows (now (store .entry)) (now (free .entry)) (now (ready .entry)) (now (owners .entry)) (length (now (pool .entry)))) (now (store .entry)) ⌝ }
+{
+    let l = Lengths {
+        rows: rows as u64,
+        store: store.len() as u64,
+        free: free.len() as u64,
+        ready: ready.len() as u64,
+        owners: owners.len() as u64,
+        pool: pool.len() as u64,
+    };
+    if store::same_lengths(store, l) {
+        let o = settings::settings(store);
+        Fit {
+            fits: true,
+            depth: o.depth as usize,
+        }
+    } else {
+        Fit {
+            fits: false,
+            depth: 0,
+        }
+    }
+}
+
+// The reply to a lookup, by whether the lengths are the opening's: "A later call with another length of row memory or pool gets 13 first."
+fn answer(x: Lookup, counts: Counts, fits: bool, l: Looked) -> Reply
+    ensures { λ r. ⌜ r ≡ answerOf fits x counts l ⌝ }
+{
+    if fits {
+        lookup::reply(x, counts, l)
+    } else {
+        Reply::No(Refusal::Unfit)
+    }
+}
+
+// One lookup (store-io's writes_live, and the mark): it changes nothing.
+pub fn lookup(
+    x: Lookup,
+    counts: Counts,
+    rows: &[Row],
+    store: &[u64],
+    free: &[u64],
+    ready: &[u64],
+    owners: &[u64],
+    pool: &[u8],
+) -> Reply
+    ensures { λ r. ⌜ LooksTo x counts (lentOf (now (rows .entry)) (now (store .entry)) (now (free .entry)) (now (ready .entry)) (now (owners .entry)) (now (pool .entry))) r ⌝ }
+{
+    let f = fitted(rows.len(), store, free, ready, owners, pool);
+    let l = lookup::look(rows, f.depth, counts.submissions);
+    answer(x, counts, f.fits, l)
 }

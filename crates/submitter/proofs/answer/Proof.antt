@@ -1,0 +1,26 @@
+-- `submitter::answer` meets its contract, by the test.
+use mathlib.Core.Path.{sym, ap, _∙_}
+use mathlib.Core.Bool.{Bool}
+use Rattle.layout.specs.Pick.{pick}
+use Rattle.submitter.specs.Look.{answerOf}
+use borrow.Author.Needs.{needs}
+use Rattle.submitter.proofs.answer.Statement.{statement}
+use Rattle.submitter.proofs.answer.Tie as tie
+
+reply-requires : tie.Need-reply-requires
+reply-requires c κs = search needs
+
+returns : tie.Need-returns
+unfolding answerOf pick
+returns c =
+    let a = c .before .before .args in
+    c .reply .ensures ∙ sym (ap (λ (t : Bool). answerOf t (a .x) (a .counts) (a .l)) (c .before .if1 .taken))
+
+returns-2 : tie.Need-returns-2
+unfolding answerOf pick
+returns-2 c =
+    let a = c .before .args in
+    sym (ap (λ (t : Bool). answerOf t (a .x) (a .counts) (a .l)) (c .if1 .left))
+
+pub answer-spec : {M : Type 1} → statement M
+answer-spec = tie.close (tie.spec reply-requires returns returns-2)
