@@ -45,3 +45,4 @@ pub mod CardBytes
 pub mod CardLists
 pub mod Demand3
 pub mod Demand3Example
+pub mod Demand2Others
