@@ -46,3 +46,7 @@ pub mod CardLists
 pub mod Demand3
 pub mod Demand3Example
 pub mod Demand2Others
+pub mod Demand2Bytes
+pub mod Demand2Fate
+pub mod Demand2Task
+pub mod Demand2Event
