@@ -147,7 +147,7 @@ on-card-most : (w : Task) (d i : ℕ) → d ≤ w .request .length → i < onCar
 on-card-most w d i most = by-pick (pages (w .kind)) (λ (n : ℕ). i < n → i < w .request .length) (λ page lt. omega (arith, most, lt)) (λ reads lt. lt)
 
 -- all bytes are on the card when all are done
-on-card-all : (w : Task) (d i : ℕ) → d ≡ w .request .length → i < w .request .length → i < onCard w d
+pub on-card-all : (w : Task) (d i : ℕ) → d ≡ w .request .length → i < w .request .length → i < onCard w d
 on-card-all w d i all lt = by-pick (pages (w .kind)) (λ (n : ℕ). i < n) (λ page. omega (arith, all, lt)) (λ reads. lt)
 
 ticket-length : (w : Task) (t : WriteTicket) → t .start ≡ firstOf (w .kind) → t .end ≡ lastOf (w .kind) → t .end .0 - t .start .0 ≡ w .request .length

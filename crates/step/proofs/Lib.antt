@@ -50,3 +50,6 @@ pub mod Demand2Bytes
 pub mod Demand2Fate
 pub mod Demand2Task
 pub mod Demand2Event
+pub mod Demand2Walk
+pub mod Demand2Begun
+pub mod Demand2
