@@ -1,14 +1,13 @@
 -- An accepted submission: the operation stands at the start of its range, and its buffer is as at acceptance.
 use mathlib.Core.Path.{_≡_, refl, sym, ap, _∙_, subst}
-use mathlib.Core.Bool.{Bool, true, false}
-use mathlib.Core.Option.{Option, none, some}
+use mathlib.Core.Bool.{true, false}
+use mathlib.Core.Option.{some}
 use mathlib.Core.List.{List, [], _∷_, _++_}
 use Prim.Native.Nat.{ℕ, _+_, _≤_, _<_, _^_}
 use native.Mathlib.Nat.{add-left-cancel}
 use native.Mathlib.Omega.{arith}
 use lib.ListN.{length, take, drop, getD, take-append-drop}
 use lib.Seq.{length-take-le, getD-set-same}
-use Rattle.layout.specs.Pick.{pick}
 use Rattle.regionmap.specs.Map.{Map, place}
 use Rattle.iobuf.specs.Turn.{stretch}
 use Rattle.posix.specs.Posix.{Card}
@@ -26,9 +25,9 @@ use Rattle.model.specs.State.{State, freed}
 use Rattle.model.specs.Opening.{Plan}
 use Rattle.step.specs.Questions.{regionAt}
 use Rattle.step.specs.Rules.{firstOf, lastOf}
-use Rattle.step.specs.Step.{startOf, endOf, queueTag, topOf, rowAt, rowOf, generationOf, isLive, names, bytesAt, planOf, claimedBy, accepted, submitted, verdictOf, writeVerdict, readVerdict, called, eqLengths, step}
+use Rattle.step.specs.Step.{startOf, endOf, queueTag, topOf, rowAt, rowOf, generationOf, isLive, bytesAt, planOf, claimedBy, accepted, submitted, verdictOf, writeVerdict, readVerdict, called, eqLengths, step}
 use Rattle.step.specs.Sound.{Sound}
-use Rattle.step.specs.Laws.{Made, Made.calls, Event, leave, done, next, run, replyTo}
+use Rattle.step.specs.Laws.{Made.calls, Event, leave, done, next, run}
 use Rattle.step.specs.Lists.{HostMay, Hosted}
 use Rattle.step.specs.Alone.{tagGiven}
 use Rattle.step.specs.Demand3.{Start, openedBy, after, alonesAfter}
@@ -44,7 +43,7 @@ use Rattle.step.proofs.ProjectionFixed.{Fixed, next-plans}
 use Rattle.step.proofs.ProjectionReached.{Reached}
 use Rattle.step.proofs.Projection.{reached-after}
 use Rattle.step.proofs.Demand2Fate.{pages}
-use Rattle.step.proofs.Demand2Task.{Task, hostsOf, onCard, Stage.piece, InRow, Open}
+use Rattle.step.proofs.Demand2Task.{Task, hostsOf, Stage.piece, InRow, Open}
 
 -- ---- the call
 

@@ -1,7 +1,7 @@
 -- The bytes of an operation whose first d bytes are done: behind those left of the old ones stand the new ones, then the buffer's others. A piece whose bytes
 -- are new turns behind them; with the last piece the first arrangement is back. And a piece's bytes on the card.
 use mathlib.Core.Path.{_≡_, refl, sym, ap, _∙_}
-use mathlib.Core.List.{List, [], _∷_, _++_, append-assoc}
+use mathlib.Core.List.{List, _++_, append-assoc}
 use Prim.Native.Nat.{ℕ, zero, suc, _+_, _-_, _≤_, _<_}
 use native.Mathlib.Decide.{decLt}
 use native.Mathlib.Omega.{arith}

@@ -13,7 +13,6 @@ use Rattle.layout.specs.Pick.{pick}
 use Rattle.layout.proofs.Tests.{not-both, true-or-false}
 use Rattle.regionmap.specs.declared.Position.{Position}
 use Rattle.regionmap.specs.Map.{Map, place}
-use Rattle.iobuf.specs.Turn.{turned}
 use Rattle.posix.specs.Posix.{Card, pwrite}
 use Rattle.platform.specs.declared.Answer.{Answer}
 use Rattle.platform.specs.declared.Flushed.{Flushed}
@@ -40,17 +39,17 @@ use Rattle.step.specs.Rules.{firstOf, lastOf, pieceLength, isWhole, spli
 use Rattle.step.specs.Step.{rowAt, rowOf, isLive, names, bytesAt, raised, awaitsNow, completionOf, planOf, going, freeing, settled, fateOf, underTag, eqLengths}
 use Rattle.step.specs.Sound.{Sound}
 use Rattle.step.specs.Laws.{Made, Made.calls, Made.looks, Event, leave, done, next, replyTo}
-use Rattle.step.specs.Lists.{brought, isAway, loose, planAt, Completed, withBytes, addedBy, isBrought, takesWhole, wroteBy, tagIn, cardBy, HostMay}
-use Rattle.step.specs.Demand2.{WholeTo, HoldsCard, TakenWhole, Undisturbed}
+use Rattle.step.specs.Lists.{brought, isAway, planAt, Completed, withBytes, addedBy, isBrought, takesWhole, wroteBy, tagIn, cardBy, HostMay}
+use Rattle.step.specs.Demand2.{WholeTo, TakenWhole, Undisturbed}
 use Rattle.step.proofs.Picked.{by-pick}
 use Rattle.step.proofs.Away.{turned-away}
-use Rattle.step.proofs.AloneTags.{clash, freed-dead, live-in, names-live, names-generation, names-by}
+use Rattle.step.proofs.AloneTags.{clash, live-in, names-live, names-generation, names-by}
 use Rattle.step.proofs.Buffers.{bytes-length}
 use Rattle.step.proofs.Histories.{leaves, keeps-next}
 use Rattle.step.proofs.Laws.{keeps}
 use Rattle.step.proofs.Fates.{Fitting, FateFits, fate-fits}
 use Rattle.step.proofs.CardBytes.{wrote-none, wrote-away}
-use Rattle.step.proofs.ListsBrought.{Brings, brings}
+use Rattle.step.proofs.ListsBrought.{brings}
 use Rattle.step.proofs.ProjectionFixed.{next-plans}
 use Rattle.step.proofs.ProjectionHost.{sole, live-in-table, left-alike}
 use Rattle.step.proofs.ProjectionSet.{Changed, row-here, bytes-here}

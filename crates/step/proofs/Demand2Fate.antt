@@ -1,6 +1,6 @@
 -- What the rules make of a piece that is taken whole with its buffer back: with bytes left the next piece; after the last one a read's whole count, a
 -- completed write or its flush, with the buffer turned back.
-use mathlib.Core.Path.{_≡_, refl, sym, ap, _∙_}
+use mathlib.Core.Path.{_≡_, refl, ap}
 use mathlib.Core.Bool.{Bool, true, false, _||_}
 use mathlib.Core.Option.{none}
 use mathlib.Core.List.{List}
@@ -10,14 +10,13 @@ use borrow.Author.Tests.{eqb-true, eq-eqb, ltb-false, le-ltb}
 use lib.Dec.{eqb}
 use Rattle.layout.specs.Pick.{pick}
 use Rattle.layout.proofs.Tests.{not-both, and-right, and-both}
-use Rattle.regionmap.specs.declared.Position.{Position}
 use Rattle.iobuf.specs.Turn.{turned}
 use Rattle.domain.specs.declared.Poisoned.{Poisoned}
 use Rattle.platform.specs.declared.Answer.{Answer}
 use Rattle.platform.specs.declared.Answer.the-variants.{Count, Error, Refused, RefusedWith}
 use Rattle.completion.specs.declared.WriteTicket.{WriteTicket}
 use Rattle.completion.specs.declared.Outcome.{Outcome}
-use Rattle.completion.specs.declared.Outcome.the-variants.{Written, Read as readTo}
+use Rattle.completion.specs.declared.Outcome.the-variants.{Read as readTo}
 use Rattle.completion.specs.declared.Buffer.the-variants.{Back}
 use Rattle.model.specs.declared.Opening.{Opening}
 use Rattle.model.specs.declared.Kind.{Kind}
@@ -26,7 +25,7 @@ use Rattle.model.specs.declared.Split.{Split}
 use Rattle.model.specs.declared.Awaits.the-variants.{Piece, Flush}
 use Rattle.model.specs.declared.Row.{Row}
 use Rattle.model.specs.Opening.{Plan}
-use Rattle.step.specs.Rules.{firstOf, lastOf, pieceLength, Fate, Fate.awaits, Fate.ends, bufferAs, turnedBack, isWritten, readOutcome, readLength, ticketOf, unflushed, writtenAs, lastPiece, abovePiece, firstRefused, isRefusal, isWhole, goesOn, splitAfter, pieceAnswered}
+use Rattle.step.specs.Rules.{firstOf, lastOf, pieceLength, Fate, Fate.awaits, Fate.ends, bufferAs, turnedBack, isWritten, readOutcome, readLength, ticketOf, writtenAs, lastPiece, abovePiece, firstRefused, isRefusal, isWhole, goesOn, splitAfter, pieceAnswered}
 use Rattle.step.proofs.Picked.{by-pick}
 use Rattle.step.proofs.Fates.{goes-on-left}
 use Rattle.step.proofs.QuietRules.{piece-most}

@@ -2,25 +2,20 @@
 -- another queue tag names.
 use mathlib.Core.Path.{_≡_, refl, sym, ap, _∙_, subst}
 use mathlib.Core.Logic.{_≢_}
-use mathlib.Core.Bool.{Bool, true, false}
-use mathlib.Core.Option.{Option, none, some}
+use mathlib.Core.Bool.{true}
+use mathlib.Core.Option.{none, some}
 use mathlib.Core.List.{List, [], _∷_}
 use Prim.Native.Nat.{ℕ, _<_}
-use native.Mathlib.Decide.{ℕ-discrete}
 use native.Mathlib.Omega.{arith}
 use borrow.Author.Tests.{eq-eqb}
 use lib.Dec.{eqb, ltb}
-use lib.ListN.{length, getD, set}
 use lib.Seq.{getD-set-other}
 use Rattle.layout.specs.Pick.{pick}
-use Rattle.layout.proofs.Tests.{not-both}
-use Rattle.iobuf.specs.Turn.{stretch}
 use Rattle.posix.specs.Posix.{Card}
 use Rattle.completion.specs.declared.Completion.{Completion}
 use Rattle.completion.specs.declared.Reply.{Reply}
 use Rattle.model.specs.declared.Lengths.{Lengths}
 use Rattle.model.specs.declared.Kind.{Kind}
-use Rattle.model.specs.declared.Row.{Row}
 use Rattle.model.specs.declared.Request.{Request}
 use Rattle.model.specs.declared.Asked.{Asked}
 use Rattle.model.specs.declared.Asked.the-variants.{Yes, No}
@@ -29,22 +24,22 @@ use Rattle.model.specs.declared.Call.the-variants.{Write, ReadPage, Answer, Flu
 use Rattle.model.specs.State.{Region, State, freed, awaiting}
 use Rattle.step.specs.Questions.{regionAt}
 use Rattle.step.specs.Rules.{Input, Input.answered, Input.flushed, Fate, Fate.away, Fate.awaits, Fate.ends, Fate.rejected}
-use Rattle.step.specs.Step.{topOf, rowAt, rowOf, names, isLive, bytesAt, raised, awaitsNow, accepted, submitted, verdictOf, writeVerdict, readVerdict, going, freeing, settled, fateOf, underTag, taken}
+use Rattle.step.specs.Step.{topOf, rowAt, rowOf, names, bytesAt, raised, awaitsNow, accepted, submitted, verdictOf, writeVerdict, readVerdict, going, freeing, settled, fateOf, underTag, taken}
 use Rattle.step.specs.Step.{withRegions, withPoison, marked, withGate, withReadOnly, withForced, called, eqLengths, step}
 use Rattle.step.specs.Sound.{Sound}
 use Rattle.step.specs.Laws.{Made, Made.calls, Made.looks, Event, leave, done, next, replyTo}
-use Rattle.step.specs.Lists.{broughtBy, brought, isAway, planAt, wroteBy, tagIn, cardBy}
+use Rattle.step.specs.Lists.{broughtBy, brought, isAway, tagIn, cardBy}
 use Rattle.step.specs.Demand3.{Mapped}
 use Rattle.step.proofs.Picked.{by-pick}
 use Rattle.step.proofs.Named.{live-one}
-use Rattle.step.proofs.AloneTags.{clash, live-in, names-live, one-tag}
+use Rattle.step.proofs.AloneTags.{clash, names-live, one-tag}
 use Rattle.step.proofs.Answers.{Passed, write-passed, read-passed}
 use Rattle.step.proofs.Taken.{awaits-nothing}
 use Rattle.step.proofs.Buffers.{bytes-length}
 use Rattle.step.proofs.Fates.{Fitting, FateFits, fate-fits}
 use Rattle.step.proofs.CardBytes.{wrote-away}
 use Rattle.step.proofs.ProjectionHost.{live-in-table}
-use Rattle.step.proofs.ProjectionSet.{bytes-there, row-there}
+use Rattle.step.proofs.ProjectionSet.{bytes-there}
 
 -- ---- the card
 

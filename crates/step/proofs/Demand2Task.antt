@@ -3,13 +3,12 @@
 -- on the card, and of a read the card's bytes are the new ones.
 use mathlib.Core.Path.{_≡_, refl, sym, ap, _∙_, subst}
 use mathlib.Core.Bool.{Bool, true, false}
-use mathlib.Core.List.{List, _++_}
+use mathlib.Core.List.{List}
 use Prim.Native.Nat.{ℕ, _+_, _-_, _≤_, _<_}
 use native.Mathlib.Nat.{add-assoc}
 use native.Mathlib.Omega.{arith}
 use lib.ListN.{length, take, drop, getD}
 use Rattle.layout.specs.Pick.{pick}
-use Rattle.layout.proofs.Tests.{not-both}
 use Rattle.regionmap.specs.Map.{Map, place, pieceSize}
 use Rattle.regionmap.specs.Laws.{Lawful, OnePiece}
 use Rattle.regionmap.proofs.Laws.{map-laws}
@@ -159,10 +158,11 @@ module _ (w : Task) (s : State) (r : Row) (d : ℕ) (o : InRow w r d) (map-is : 
       let there : pread card (place (planAt s r .map) (firstOf (w .kind) .0 + d)) (pieceLength (planAt s r) (w .kind) (splitOf w d)) ≡ pread card (mappedTo w d) n =
       (λ j. pread card (piece-place w s r (o .handle) map-is d j) (piece-size w s r (o .handle) map-is d j)) in
       let ends = piece-ends w d left in
-      let long = w .long-new in
-      (sym here ∙ came ∙ there
-      ∙ piece-read (mappedTo w) (w .new) d n (omega (arith, ends, long)) (consecutive w d left) card (λ i lt. same i (omega (arith, lt, whole, long))),
-      subst (λ (m : ℕ). drop m bytes ≡ drop m (lying (w .new) (w .old) (w .tail) d)) host held)
+      let long = w .long-new in (
+        sym here ∙ came ∙ there
+            ∙ piece-read (mappedTo w) (w .new) d n (omega (arith, ends, long)) (consecutive w d left) card (λ i lt. same i (omega (arith, lt, whole, long))),
+        subst (λ (m : ℕ). drop m bytes ≡ drop m (lying (w .new) (w .old) (w .tail) d)) host held,
+      )
 
   pub is-new : IsNew
   unfolding HoldsCard pages

@@ -1,13 +1,12 @@
 -- A list of events through which an operation is served as demand 2 supposes: while it is open it stands somewhere in its range, and with its completion, the
 -- last event, its bytes are the new ones and its whole range is on the card.
-use mathlib.Core.Path.{_≡_, refl, sym, ap, _∙_, subst}
-use mathlib.Core.Bool.{true, false}
+use mathlib.Core.Path.{_≡_, sym, ap, _∙_, subst}
+use mathlib.Core.Bool.{false}
 use mathlib.Core.List.{List, [], _∷_, _++_}
 use Prim.Native.Nat.{ℕ}
 use Rattle.layout.proofs.Tests.{not-both}
 use Rattle.posix.specs.Posix.{Card}
 use Rattle.completion.specs.declared.Completion.{Completion}
-use Rattle.model.specs.declared.Awaits.{Awaits}
 use Rattle.model.specs.State.{State}
 use Rattle.step.specs.Step.{rowAt, rowOf, names}
 use Rattle.step.specs.Laws.{Event, next, run}
@@ -47,7 +46,7 @@ module _ (w : Task) where
   pub walk : (es : List Event) (s : State) (card : Card) (d : ℕ) → Open w s card d → Served s es (w .tag) (w .request) card → Along w s es card
   unfolding Served run cardAfter gets
   walk [] s card d o served = record { arrived = flush-only s card d o; completed = λ c bytes more q. clash (cc) }
-  walk (e ∷ es) s card d o served = 
+  walk (e ∷ es) s card d o served =
       by-came (λ d′ o′. walk es (next s e) (cardBy s e card) d′ o′ (served .4)) (came w s card d o e (served .1) (served .2) (served .3))
     where
       by-came : ((d′ : ℕ) → Open w (next s e) (cardBy s e card) d′ → Along w (next s e) es (cardBy s e card)) → Came w s card e → Along w s (e ∷ es) card
