@@ -53,3 +53,4 @@ pub mod Demand2Event
 pub mod Demand2Walk
 pub mod Demand2Begun
 pub mod Demand2
+pub mod Demand2Example
