@@ -45,3 +45,12 @@ pub mod CardBytes
 pub mod CardLists
 pub mod Demand3
 pub mod Demand3Example
+pub mod Demand2Others
+pub mod Demand2Bytes
+pub mod Demand2Fate
+pub mod Demand2Task
+pub mod Demand2Event
+pub mod Demand2Walk
+pub mod Demand2Begun
+pub mod Demand2
+pub mod Demand2Example
