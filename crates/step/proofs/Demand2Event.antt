@@ -48,12 +48,12 @@ use Rattle.step.proofs.Buffers.{bytes-length}
 use Rattle.step.proofs.Histories.{leaves, keeps-next}
 use Rattle.step.proofs.Laws.{keeps}
 use Rattle.step.proofs.Fates.{Fitting, FateFits, fate-fits}
-use Rattle.step.proofs.CardBytes.{wrote-none, wrote-away}
+use Rattle.step.proofs.CardBytes.{wrote-none}
 use Rattle.step.proofs.ListsBrought.{brings}
 use Rattle.step.proofs.ProjectionFixed.{next-plans}
 use Rattle.step.proofs.ProjectionHost.{sole, live-in-table, left-alike}
 use Rattle.step.proofs.ProjectionSet.{Changed, row-here, bytes-here}
-use Rattle.step.proofs.Demand2Others.{pool-others, other-row, done-row}
+use Rattle.step.proofs.Demand2Others.{wrote-unless, pool-others, other-row, done-row}
 use Rattle.step.proofs.Demand2Bytes.{lying, lying-last, turned-on, turned-last, piece-written}
 use Rattle.step.proofs.Demand2Fate.{pages, Whole, Whole.next-piece, Whole.its-flush, Whole.completes, answer-whole}
 use Rattle.step.proofs.Demand2Task.{Task, mappedTo, splitOf, sizeOf, hostsOf, onCard, Stage, Stage.piece, Stage.flush, InRow, Open, piece-ends, consecutive, piece-place, piece-size, loose-is, is-new}
@@ -243,7 +243,7 @@ module _ (w : Task) (s : State) (card : Card) (d : ℕ) (o : Open w s card d) (e
 
         by-name : (j : Input) → brought u (e .made) ≡ some j → isAway (replyTo s e) ≡ false → (n : Bool) → names its u ≡ n → wroteBy (planAt s its) (its .awaits) (bytesAt left (its .buffer)) (some j) card y ≡ card y
         by-name j q heard true here =
-            wrote-away s (o .sound) (rowOf u) (bytesAt left (its .buffer)) (some j) card y
+            wrote-unless s (o .sound) (rowOf u) (bytesAt left (its .buffer)) (some j) card y
             (λ writes mapped. alone (rowOf u) y i (other-row s (o .sound) t (o .in-row .named) u (other-tag j q) here) writes mapped lt (ap (λ (m : Map). place m (w .request .offset .0 + i)) (o .map-is)))
         by-name j q heard false n = absurd (not-both (unnamed-away s e u j q n) heard)
 

@@ -27,13 +27,13 @@ use Rattle.step.specs.Questions.{regionWritable, volumeAndRegionMatch, g
 use Rattle.step.specs.Questions.{writeQuestions, readQuestions}
 use Rattle.step.specs.Rules.{opOf, firstOf, lastOf, rangeOf, pieceOf, pieceLength, Input, Input.answered, bufferAs, errorOf, turnedBack, isWritten, causeOf, readOutcome, readLength, ticketOf, writtenAs, lastPiece}
 use Rattle.step.specs.Rules.{abovePiece, isRefusal, firstRefused, isWhole, goesOn, splitAfter, pieceAnswered, flushEnds, answerRules, flushRules, rules}
-use Rattle.step.specs.Step.{queueTag, topOf, rowAt, verdictOf, writeVerdict, readVerdict, durableAs, claimedBy, oneMore, accepted, submitted, rowOf, generationOf, isLive, names, bytesAt, raised, awaitsNow, oneLess, keptBy, poisonWith}
+use Rattle.step.specs.Step.{writesIn, queueTag, topOf, rowAt, verdictOf, writeVerdict, readVerdict, durableAs, claimedBy, oneMore, accepted, submitted, rowOf, generationOf, isLive, names, bytesAt, raised, awaitsNow, oneLess, keptBy, poisonWith}
 use Rattle.step.specs.Step.{going, freeing, planOf, asksFor, completionOf, rejection, settled, fateOf, underTag, lookedUp, eqLengths, called, step, look}
 use Rattle.step.specs.Laws.{Made, Made.calls, Made.looks, Event, leave, done, next, replyTo, run}
 use Rattle.step.specs.Lists.{broughtBy, brought, isAway, loose, planAt, leftIn, takesWhole, wroteBy, tagIn, cardBy, HostMay, Hosted}
 use Rattle.step.specs.Alone.{tagGiven}
 use Rattle.step.specs.Figures.{figuresOpening, figuresPlan, figuresLengths}
-use Rattle.step.specs.Demand3.{Start, plansOf, openedBy, after, isWrite}
+use Rattle.step.specs.Demand3.{Start, plansOf, openedBy, after}
 use Rattle.step.specs.Demand2.{WholeTo, HoldsCard, TakenWhole, Undisturbed, Served, Accepted, Wrote, DidRead, PiecesDone}
 use Rattle.step.proofs.AloneTags.{clash}
 use Rattle.step.proofs.Figures.{figures}
@@ -56,7 +56,7 @@ may s = record { count = refl; each = λ b lt. inr (inl refl) }
 unfoldable ServedAll : State → List Made → ℕ → Request → Card → Type 0
 ServedAll s [] t q card = Unit {0}
 ServedAll s (m ∷ ms) t q card =
-    (names (rowAt s (rowOf t)) t ≡ true) × TakenWhole s (quiet s m) t card × ((r : ℕ) → r ≢ rowOf t → isWrite (rowAt s r .awaits) ≡ false) × ServedAll (next s (quiet s m)) ms t q (cardBy s (quiet s m) card)
+    (names (rowAt s (rowOf t)) t ≡ true) × TakenWhole s (quiet s m) t card × ((r : ℕ) → r ≢ rowOf t → writesIn (rowAt s r .awaits) ≡ false) × ServedAll (next s (quiet s m)) ms t q (cardBy s (quiet s m) card)
 
 quiet-served : (s : State) (ms : List Made) (t : ℕ) (q : Request) (card : Card) → ServedAll s ms t q card → Served s (quietly s ms) t q card
 unfolding Served quietly ServedAll Undisturbed
@@ -126,7 +126,7 @@ unfolding quietly ServedAll figuresOpening figuresPlan figuresLengths openedBy p
     ask firstNo handleNamesRegion bufferInPool isHost heldAt hostHoldsBuffer roomInTable lifetimeLeft gateOpen storeWritable unpoisoned
     regionWritable volumeAndRegionMatch generationMatches lengthAbove0 writeOnBlock readOnBlock aligned withinData regionAt writeQuestions readQuestions
     planIn plansIn atFirst opened freed upFrom runsIn mapIn spanFrom runOf runEnd runLeft place pieceSize pick onBlock
-    brought broughtBy tagIn tagGiven isAway leftIn loose planAt isWrite WholeTo HoldsCard cardBy wroteBy takesWhole pread
+    brought broughtBy tagIn tagGiven isAway leftIn loose planAt writesIn WholeTo HoldsCard cardBy wroteBy takesWhole pread
 computed = record {
   writes = refl;
   reads = refl;

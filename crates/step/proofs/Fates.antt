@@ -78,7 +78,7 @@ own-buffer false b n = tt
 
 pub turned-back-length : (back : Bool) (s : Split) (bytes : List ℕ) → length (turnedBack back s bytes) ≡ length bytes
 unfolding turnedBack
-turned-back-length true s bytes = turn-laws .length-kept (s .total) (s .total - s .done) bytes
+turned-back-length true s bytes = turn-laws .length-kept (s .total) _ bytes
 turned-back-length false s bytes = refl
 
 -- bytes are left behind a piece after which the operation goes on
@@ -129,7 +129,7 @@ module _ (o : Opening) (g : Region) where
         by-pick (abovePiece piece answer) (Fits (Piece k s)) (λ a. tt)
         λ a. by-pick (firstRefused s answer) (Fits (Piece k s)) (λ f. (tt, own-buffer back (r .buffer) (s .total), refl))
         λ f. by-pick (goesOn piece s answer back) (Fits (Piece k s))
-        (λ w. (next-piece k s (goes-on-left piece s answer back w), turn-laws .length-kept (s .total) piece bytes))
+        (λ w. (next-piece k s (goes-on-left piece s answer back w), turn-laws .length-kept (s .total) _ bytes))
         λ w. last-fits k s answer back flushes
 
     answer-fits : (was : Awaits) (answer : Answer) (back : Bool) (flushes : ℕ) → Fits was (answerRules o (planOf g) forced first r bytes answer back flushes was)

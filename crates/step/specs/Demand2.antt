@@ -25,7 +25,7 @@ use Rattle.model.specs.declared.Call.the-variants.{Write, ReadPage}
 use Rattle.model.specs.State.{State}
 use Rattle.step.specs.Questions.{regionAt}
 use Rattle.step.specs.Rules.{pieceLength, isWhole, Input, Input.answered, Input.flushed}
-use Rattle.step.specs.Step.{rowOf, rowAt, bytesAt, isLive, names}
+use Rattle.step.specs.Step.{rowOf, rowAt, bytesAt, isLive, names, writesIn}
 use Rattle.step.specs.Sound.{Sound}
 use Rattle.step.specs.Laws.{Made, Made.calls, Event, leave, next, run, replyTo}
 use Rattle.step.specs.Lists.{brought, isAway, planAt, leftIn, tagIn, gets, cardBy, cardAfter, Hosted, HostMay}
@@ -55,7 +55,7 @@ TakenWhole s e t card = (i : Input) → brought t (e .made) ≡ some i → isAwa
 
 -- "no other operation writing its bytes meanwhile": no other open write is mapped to a byte of the request's range
 unfoldable pub Undisturbed : State → ℕ → Request → Type 0
-Undisturbed s t q = (r y i : ℕ) → r ≢ rowOf t → isWrite (rowAt s r .awaits) ≡ true → Mapped s (rowAt s r) y → i < q .length → place (regionAt s (q .handle) .map) (q .offset .0 + i) ≡ y → ⊥
+Undisturbed s t q = (r y i : ℕ) → r ≢ rowOf t → writesIn (rowAt s r .awaits) ≡ true → Mapped s (rowAt s r) y → i < q .length → place (regionAt s (q .handle) .map) (q .offset .0 + i) ≡ y → ⊥
 
 -- a list of events, whatever their calls, through which the operation under the queue tag t is served so, until it ends; the card changes as the table's
 -- pieces say
@@ -110,7 +110,7 @@ pub record Demand2 : Type 0 where
       → Served (begun x h e) es t q card → DidRead x h e t q card es
   -- "and touch no other byte of card or pool": an answer changes no card byte outside its operation's range, and no call a byte of a buffer that is not the
   -- buffer of the live row that its tag names
-  pub card-others : (s : State) (e : Event) (card : Card) (y : ℕ) → Sound s → (Mapped s (rowAt s (rowOf (tagIn (e .made)))) y → ⊥) → cardBy s e card y ≡ card y
+  pub card-others : (s : State) (e : Event) (card : Card) (y : ℕ) → Sound s → (writesIn (rowAt s (rowOf (tagIn (e .made))) .awaits) ≡ true → Mapped s (rowAt s (rowOf (tagIn (e .made)))) y → ⊥) → cardBy s e card y ≡ card y
   pub pool-others : (s : State) (e : Event) (b : ℕ) → Sound (leave s (e .leaves)) → b < s .settings .buffers
       → ((i : Input) → brought (tagIn (e .made)) (e .made) ≡ some i → names (rowAt s (rowOf (tagIn (e .made)))) (tagIn (e .made)) ≡ true → rowAt s (rowOf (tagIn (e .made))) .buffer ≢ b)
       → bytesAt (next s e) b ≡ bytesAt (leave s (e .leaves)) b
