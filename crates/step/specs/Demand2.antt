@@ -12,7 +12,7 @@ use Rattle.regionmap.specs.Map.{place}
 use Rattle.iobuf.specs.Turn.{stretch}
 use Rattle.posix.specs.Posix.{Card, pread}
 use Rattle.transfer.specs.Transfer.{gathered}
-use Rattle.completion.specs.declared.Outcome.the-variants.{Written, Read as readTo}
+use Rattle.completion.specs.declared.Outcome.the-variants.{Read as readTo}
 use Rattle.completion.specs.declared.Buffer.the-variants.{Back}
 use Rattle.completion.specs.declared.Completion.{Completion}
 use Rattle.model.specs.declared.Kind.{Kind}
@@ -25,7 +25,7 @@ use Rattle.model.specs.declared.Call.the-variants.{Write, ReadPage}
 use Rattle.model.specs.State.{State}
 use Rattle.step.specs.Questions.{regionAt}
 use Rattle.step.specs.Rules.{pieceLength, isWhole, Input, Input.answered, Input.flushed}
-use Rattle.step.specs.Step.{rowOf, rowAt, bytesAt, isLive, names, writesIn}
+use Rattle.step.specs.Step.{rowOf, rowAt, bytesAt, names, writesIn}
 use Rattle.step.specs.Sound.{Sound}
 use Rattle.step.specs.Laws.{Made, Made.calls, Event, leave, next, run, replyTo}
 use Rattle.step.specs.Lists.{brought, isAway, planAt, leftIn, tagIn, gets, cardBy, cardAfter, Hosted, HostMay}

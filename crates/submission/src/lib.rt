@@ -35,13 +35,7 @@ fn decide(asked: Asked, live: u64, store: &[u64], free: &[u64], kind: Kind, q: R
 }
 
 // Whether a write is accepted, and as what (Submitter::write).
-pub fn write(
-    counts: Counts,
-    store: &[u64],
-    free: &[u64],
-    owners: &[u64],
-    q: Request,
-) -> Verdict
+pub fn write(counts: Counts, store: &[u64], free: &[u64], owners: &[u64], q: Request) -> Verdict
     ensures { λ r. ⌜ Decides writeVerdict counts (now (store .entry)) (now (free .entry)) (now (owners .entry)) q r ⌝ }
 {
     let asked = asking::ask_write(counts, store, owners, q);
@@ -54,13 +48,7 @@ pub fn write(
 }
 
 // Whether a read is accepted, and as what (Submitter::read_page and read).
-pub fn read_page(
-    counts: Counts,
-    store: &[u64],
-    free: &[u64],
-    owners: &[u64],
-    q: Request,
-) -> Verdict
+pub fn read_page(counts: Counts, store: &[u64], free: &[u64], owners: &[u64], q: Request) -> Verdict
     ensures { λ r. ⌜ Decides readVerdict counts (now (store .entry)) (now (free .entry)) (now (owners .entry)) q r ⌝ }
 {
     let asked = asking::ask_read(counts, store, owners, q);

@@ -4,10 +4,10 @@
 use drawing::Drawn;
 use drawing::Tally;
 use host::CalledIn;
-use model::Submit;
 use model::Counts;
 use model::Request;
 use model::Row;
+use model::Submit;
 use submitter::Opened;
 
 // How many openings there are, how many of them are printed, and how many requests each gets.

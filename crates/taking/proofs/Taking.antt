@@ -99,18 +99,21 @@ module _ (c : Counts) (l : Lent) (same : sameLengths (lengthsOf l) (l .store) �
 
       taken-step : step s (lengthsOf l) Take ≡ (stateIn counts after, Took x)
       unfolding taken stateIn
-      taken-step = stepped i ∙ ap (taken s) first ∙ (λ j. (record {
-        settings = s .settings;
-        lengths = s .lengths;
-        regions = s .regions;
-        poison = s .poison;
-        counts = counts;
-        rows = s .rows;
-        free = s .free;
-        ready = sym (queue-laws .pop o (o .depth) (c .ready - 1) (l .ready) ring) j;
-        owners = sym (back-owners (o .buffers) (l .owners) (x .buf) among) j;
-        pool = s .pool;
-      }, Took x))
+      taken-step = stepped i ∙ ap (taken s) first ∙ (λ j. (
+        record {
+          settings = s .settings;
+          lengths = s .lengths;
+          regions = s .regions;
+          poison = s .poison;
+          counts = counts;
+          rows = s .rows;
+          free = s .free;
+          ready = sym (queue-laws .pop o (o .depth) (c .ready - 1) (l .ready) ring) j;
+          owners = sym (back-owners (o .buffers) (l .owners) (x .buf) among) j;
+          pool = s .pool;
+        },
+        Took x,
+      ))
 
       taken-beyond : Beyond o l after
       unfolding lengthsOf

@@ -24,7 +24,13 @@ fn give_back(owners: &mut [u64], buf: Buffer)
 }
 
 // Takes the oldest completion; none where none is ready.
-pub fn take(row: Row, counts: Counts, store: &[u64], ready: &mut [u64], owners: &mut [u64]) -> Touched
+pub fn take(
+    row: Row,
+    counts: Counts,
+    store: &[u64],
+    ready: &mut [u64],
+    owners: &mut [u64],
+) -> Touched
     ensures { λ r. ⌜ TakesTo row counts (now (store .entry)) (now (ready .entry)) (now (owners .entry)) r (now (ready .exit)) (now (owners .exit)) ⌝ }
 {
     if counts.ready == 0 {

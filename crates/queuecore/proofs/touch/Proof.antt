@@ -55,7 +55,7 @@ unfolding lengthsOf asCall
 returns-2 c =
     let a = c .before .before .before .before .before .before .before .before .before .before .before .before .before .before .before .before .before .args in
     let here : (rows : List Row) → length rows ≡ a .rows → sameLengths (lengthsOf (lentOf rows (a .store .now) (a .free .now) (a .ready .now) (a .owners .now) (a .pool .now))) (a .store .now) ≡ true = λ rows len.
-        ap (λ (k : ℕ). sameLengths (record { rows = k; store = length (a .store .now); free = length (a .free .now); ready = length (a .ready .now); owners = length (a .owners .now); pool = length (a .pool .now) }) (a .store .now)) len ∙ sym (c .before .before .before .before .before .before .before .before .before .before .same-lengths .ensures) ∙ not-false _ (c .before .before .before .before .before .before .before .before .before .if1 .left) in
+    ap (λ (k : ℕ). sameLengths (record { rows = k; store = length (a .store .now); free = length (a .free .now); ready = length (a .ready .now); owners = length (a .owners .now); pool = length (a .pool .now) }) (a .store .now)) len ∙ sym (c .before .before .before .before .before .before .before .before .before .before .same-lengths .ensures) ∙ not-false _ (c .before .before .before .before .before .before .before .before .before .if1 .left) in
     as-known (a .call) _ (c .before .before .before .before .before .before .before .call .given .1) (a .row) (a .counts) (a .rows) (a .store .now) (a .free .now) (a .ready .now) (a .owners .now) (a .pool .now) (c .before .before .write .result) _
     (λ rows len found. c .before .before .write .ensures (a .ready .now) (a .pool .now) rows len found (here rows len))
 
@@ -73,7 +73,7 @@ unfolding lengthsOf asCall
 returns-3 c =
     let a = c .before .before .before .before .before .before .before .before .before .before .before .before .before .before .before .before .before .args in
     let here : (rows : List Row) → length rows ≡ a .rows → sameLengths (lengthsOf (lentOf rows (a .store .now) (a .free .now) (a .ready .now) (a .owners .now) (a .pool .now))) (a .store .now) ≡ true = λ rows len.
-        ap (λ (k : ℕ). sameLengths (record { rows = k; store = length (a .store .now); free = length (a .free .now); ready = length (a .ready .now); owners = length (a .owners .now); pool = length (a .pool .now) }) (a .store .now)) len ∙ sym (c .before .before .before .before .before .before .before .before .before .before .same-lengths .ensures) ∙ not-false _ (c .before .before .before .before .before .before .before .before .before .if1 .left) in
+    ap (λ (k : ℕ). sameLengths (record { rows = k; store = length (a .store .now); free = length (a .free .now); ready = length (a .ready .now); owners = length (a .owners .now); pool = length (a .pool .now) }) (a .store .now)) len ∙ sym (c .before .before .before .before .before .before .before .before .before .before .same-lengths .ensures) ∙ not-false _ (c .before .before .before .before .before .before .before .before .before .if1 .left) in
     as-known (a .call) _ (c .before .before .before .before .before .before .before .call2 .given .1) (a .row) (a .counts) (a .rows) (a .store .now) (a .free .now) (a .ready .now) (a .owners .now) (a .pool .now) (c .before .before .read-page .result) _
     (λ rows len found. c .before .before .read-page .ensures (a .ready .now) (a .pool .now) rows len found (here rows len))
 
