@@ -1,7 +1,8 @@
 // What becomes of an operation is carried into the table: its buffer's bytes turn, and it goes on, or its row is freed (store-io's optable.rs: release and
 // abort; settle.rs's publish as document 01 restates it).
 ghost use mathlib.Core.Path.{_≡_};
-ghost use Prim.Native.Nat.{_+_, _-_};
+ghost use mathlib.Core.List.{List};
+ghost use Prim.Native.Nat.{ℕ, _+_, _-_};
 ghost use lib.ListN.{set};
 ghost use Rattle.completion.specs.declared.Reply.the-variants.{Rejected as rejectedReply};
 ghost use Rattle.model.specs.declared.Awaits.the-variants.{Piece as awaitsPiece};
@@ -11,8 +12,8 @@ ghost use Rattle.regionmap.specs.Words.{wrap64};
 ghost use Rattle.firstpiece.specs.Piece.{PieceIn};
 ghost use Rattle.publish.specs.Queue.{published};
 ghost use Rattle.step.specs.Rules.{firstOf, rangeOf, opOf};
-ghost use Rattle.step.specs.Step.{raised, awaitsNow, completionOf, rejection as rejectionOf};
-ghost use Rattle.settle.specs.declared.Finished.the-variants.{Next as next};
+ghost use Rattle.step.specs.Step.{raised, awaitsNow, completionOf, rowOf, rejection as rejectionOf};
+ghost use Rattle.settle.specs.declared.Finished.the-variants.{Next as next, Ended as ended, Rejected as rejected};
 ghost use Rattle.carry.specs.Carried.{turnedPool, pushed, ownerWord, poisonedBy, AsksFor, TouchedBy, Carried};
 use called::Touched;
 use completion::Buffer;
@@ -41,7 +42,13 @@ use settle::Turn;
 fn turn(pool: &mut [u8], capacity: u64, buffer: u64, t: Turn)
     ensures { λ _. ⌜ now (pool .exit) ≡ turnedPool capacity buffer t (now (pool .entry)) ⌝ }
 {
-    iobuf::turn(pool, capacity as usize, buffer as usize, t.total as usize, t.by as usize);
+    iobuf::turn(
+        pool,
+        capacity as usize,
+        buffer as usize,
+        t.total as usize,
+        t.by as usize,
+    );
 }
 
 // A row goes on top of the free stack, which starts one place lower.
@@ -154,7 +161,15 @@ fn asks_for(store: &[u64], row: Row, qtag: u64, awaits: Awaits) -> Reply
 }
 
 // An operation goes on: its bytes turn, and it awaits its next piece or its flush.
-fn go_on(awaits: Awaits, t: Turn, qtag: u64, row: Row, capacity: u64, store: &[u64], pool: &mut [u8]) -> Touched
+fn go_on(
+    awaits: Awaits,
+    t: Turn,
+    qtag: u64,
+    row: Row,
+    capacity: u64,
+    store: &[u64],
+    pool: &mut [u8],
+) -> Touched
     ensures { λ r. ⌜ ((g : LiveRegion) → TouchedBy (next awaits t) qtag row g (now (store .entry)) r) × (now (pool .exit) ≡ turnedPool capacity (row .buffer) t (now (pool .entry))) ⌝ }
 {
     turn(pool, capacity, row.buffer, t);
@@ -205,7 +220,17 @@ fn rejection(id: u64, awaits: Awaits, raw: OsError, buf: Buffer) -> Reply
 }
 
 // A completion is ready (publish): who has its buffer, and the store's poison.
-fn complete(outcome: Outcome, buf: Buffer, cause: Poisoned, row: Row, depth: u64, count: u64, store: &mut [u64], ready: &mut [u64], owners: &mut [u64])
+fn complete(
+    outcome: Outcome,
+    buf: Buffer,
+    cause: Poisoned,
+    row: Row,
+    depth: u64,
+    count: u64,
+    store: &mut [u64],
+    ready: &mut [u64],
+    owners: &mut [u64],
+)
     ensures { λ _. ⌜ (now (store .exit) ≡ poisonedBy cause (now (store .entry))) × (now (ready .exit) ≡ published depth count (completionOf row outcome buf) (now (ready .entry))) × (now (owners .exit) ≡ set (now (owners .entry)) (row .buffer) (ownerWord 1 buf)) ⌝ }
 {
     let tag = row.tag;
@@ -214,34 +239,108 @@ fn complete(outcome: Outcome, buf: Buffer, cause: Poisoned, row: Row, depth: u64
     poison(store, cause);
 }
 
+// An operation is over (release): its bytes turn, its row is free again at the next generation, and its completion is ready.
+fn release(
+    outcome: Outcome,
+    buf: Buffer,
+    t: Turn,
+    cause: Poisoned,
+    qtag: u64,
+    row: Row,
+    o: Opening,
+    counts: Counts,
+    store: &mut [u64],
+    free: &mut [u64],
+    ready: &mut [u64],
+    owners: &mut [u64],
+    pool: &mut [u8],
+) -> Touched
+    ensures { λ r. ⌜ ((g : LiveRegion) → Carried (ended outcome buf t cause) qtag row o g counts (now (store .entry)) (now (free .entry)) (now (ready .entry)) (now (owners .entry)) (now (pool .entry)) r (now (store .exit)) (now (free .exit)) (now (ready .exit)) (now (owners .exit)) (now (pool .exit))) ⌝ }
+{
+    turn(pool, o.capacity, row.buffer, t);
+    push(free, counts.live, qtag % 0x1_0000_0000);
+    complete(
+        outcome,
+        buf,
+        cause,
+        row,
+        o.depth,
+        counts.ready,
+        store,
+        ready,
+        owners,
+    );
+    Touched {
+        row: optable::freed_row(next_generation(row.generation)),
+        accepts: false,
+        frees: Frees::Completed,
+        reply: Reply::Done { qtag },
+    }
+}
+
+// Its first piece was refused (abort): its row is free again at the same generation, and the host gets its buffer.
+fn abort(
+    raw: OsError,
+    buf: Buffer,
+    qtag: u64,
+    row: Row,
+    g: LiveRegion,
+    live: u64,
+    free: &mut [u64],
+    owners: &mut [u64],
+) -> Touched
+    ensures { λ r. ⌜ ((store : List ℕ) → TouchedBy (rejected raw buf) qtag row g store r) × (now (free .exit) ≡ pushed live (rowOf qtag) (now (free .entry))) × (now (owners .exit) ≡ set (now (owners .entry)) (row .buffer) (ownerWord 0 buf)) ⌝ }
+{
+    push(free, live, qtag % 0x1_0000_0000);
+    own(owners, row.buffer, 0, buf);
+    let awaits = row.awaits;
+    Touched {
+        row: optable::freed_row(row.generation),
+        accepts: false,
+        frees: Frees::Rejected,
+        reply: rejection(g.id, awaits, raw, buf),
+    }
+}
+
 // What becomes of an operation is carried into the table.
-pub fn carry(f: Finished, qtag: u64, row: Row, o: Opening, g: LiveRegion, counts: Counts, store: &mut [u64], free: &mut [u64], ready: &mut [u64], owners: &mut [u64], pool: &mut [u8]) -> Touched
+pub fn carry(
+    f: Finished,
+    qtag: u64,
+    row: Row,
+    o: Opening,
+    g: LiveRegion,
+    counts: Counts,
+    store: &mut [u64],
+    free: &mut [u64],
+    ready: &mut [u64],
+    owners: &mut [u64],
+    pool: &mut [u8],
+) -> Touched
     ensures { λ r. ⌜ Carried f qtag row o g counts (now (store .entry)) (now (free .entry)) (now (ready .entry)) (now (owners .entry)) (now (pool .entry)) r (now (store .exit)) (now (free .exit)) (now (ready .exit)) (now (owners .exit)) (now (pool .exit)) ⌝ }
 {
     match f {
         Finished::Away(refusal) => called::away(row, refusal),
         Finished::Next { awaits, turn } => go_on(awaits, turn, qtag, row, o.capacity, store, pool),
-        Finished::Ended { outcome, buf, turn: t, cause } => {
-            turn(pool, o.capacity, row.buffer, t);
-            push(free, counts.live, qtag % 0x1_0000_0000);
-            complete(outcome, buf, cause, row, o.depth, counts.ready, store, ready, owners);
-            Touched {
-                row: optable::freed_row(next_generation(row.generation)),
-                accepts: false,
-                frees: Frees::Completed,
-                reply: Reply::Done { qtag },
-            }
-        }
-        Finished::Rejected { raw, buf } => {
-            push(free, counts.live, qtag % 0x1_0000_0000);
-            own(owners, row.buffer, 0, buf);
-            let awaits = row.awaits;
-            Touched {
-                row: optable::freed_row(row.generation),
-                accepts: false,
-                frees: Frees::Rejected,
-                reply: rejection(g.id, awaits, raw, buf),
-            }
-        }
+        Finished::Ended {
+            outcome,
+            buf,
+            turn,
+            cause,
+        } => release(
+            outcome,
+            buf,
+            turn,
+            cause,
+            qtag,
+            row,
+            o,
+            counts,
+            store,
+            free,
+            ready,
+            owners,
+            pool,
+        ),
+        Finished::Rejected { raw, buf } => abort(raw, buf, qtag, row, g, counts.live, free, owners),
     }
 }

@@ -1,11 +1,12 @@
+-- `carry::awaits_now` meets its contract, by computation.
+use mathlib.Core.Path.{refl}
+use Rattle.step.specs.Step.{awaitsNow}
 use Rattle.carry.proofs.awaits_now.Statement.{statement}
 use Rattle.carry.proofs.awaits_now.Tie as tie
-use Rattle.carry.proofs.awaits_now.Reads as reads
-use Rattle.carry.proofs.awaits_now.Lts as lts
 
--- src/lib.rt:98:1
 returns : tie.Need-returns
-returns c = ?
+unfolding awaitsNow
+returns c = refl
 
 pub awaits-now-spec : {M : Type 1} → statement M
 awaits-now-spec = tie.close (tie.spec returns)

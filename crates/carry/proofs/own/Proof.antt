@@ -1,33 +1,35 @@
+-- `carry::own` meets its contract: a place that is not there changes nothing.
+use mathlib.Core.Path.{sym, ap}
+use Prim.Native.Nat.{ℕ}
+use native.Mathlib.Omega.{arith}
+use lib.ListN.{set}
+use lib.Seq.{set-out}
+use Rattle.carry.specs.Carried.{ownerWord}
 use borrow.Author.Needs.{needs}
 use Rattle.carry.proofs.own.Statement.{statement}
 use Rattle.carry.proofs.own.Tie as tie
-use Rattle.carry.proofs.own.Reads as reads
-use Rattle.carry.proofs.own.Lts as lts
-use Rattle.carry.proofs.owner_word.Reads as owner-word-reads
 
--- src/lib.rt:64:9
 owner-word-requires : tie.Need-owner-word-requires
 owner-word-requires c κs = search needs
 
--- src/lib.rt:67:9
 mul-owners : tie.Need-mul-owners
 mul-owners c = search needs
 
--- src/lib.rt:67:9
 slice-write-owners : tie.Need-slice-write-owners
 slice-write-owners c = search needs
 
--- src/lib.rt:61:1
 same-length : tie.Need-same-length
 same-length c = search needs
 
--- src/lib.rt:61:1
 returns : tie.Need-returns
-returns c = ?
+returns c =
+    let a = c .before .before .before .args in
+    ap (λ (w : ℕ). set (a .owners .now) (a .buffer) w) (c .before .owner-word .ensures)
 
--- src/lib.rt:61:1
 returns-2 : tie.Need-returns-2
-returns-2 c = ?
+returns-2 c =
+    let a = c .before .before .before .args in
+    sym (set-out (a .owners .now) (a .buffer) (ownerWord (a .back) (a .buf)) (omega arith))
 
 pub own-spec : {M : Type 1} → statement M
 own-spec =

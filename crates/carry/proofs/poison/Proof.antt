@@ -1,32 +1,34 @@
+-- `carry::poison` meets its contract: each arm knows whether there is a cause.
+use mathlib.Core.Path.{sym, ap, _∙_}
+use Rattle.domain.specs.declared.Poisoned.{Poisoned}
+use Rattle.carry.specs.Carried.{poisonedBy}
 use borrow.Author.Needs.{needs}
 use Rattle.carry.proofs.poison.Statement.{statement}
 use Rattle.carry.proofs.poison.Tie as tie
-use Rattle.carry.proofs.poison.Reads as reads
-use Rattle.carry.proofs.poison.Lts as lts
-use Rattle.marks.proofs.poison.Reads as poison-reads
 
 enum-told : tie.Need-enum-told
 enum-told c = search needs
 
--- src/lib.rt:86:25
 enum-known-cause : tie.Need-enum-known-cause
 enum-known-cause c = search needs
 
--- src/lib.rt:86:31
 poison-requires : tie.Need-poison-requires
 poison-requires c κs = search needs
 
--- src/lib.rt:81:1
 returns : tie.Need-returns
-returns c = ?
+unfolding poisonedBy
+returns c =
+    let a = c .before .before .before .args in
+    sym (ap (λ (x : Poisoned). poisonedBy x (a .store .now)) (c .enum-told .given .1))
 
--- src/lib.rt:81:1
 same-length : tie.Need-same-length
 same-length c = search needs
 
--- src/lib.rt:81:1
 returns-2 : tie.Need-returns-2
-returns-2 c = ?
+unfolding poisonedBy
+returns-2 c =
+    let a = c .before .before .before .before .before .before .before .before .args in
+    c .before .before .poison .ensures ∙ sym (ap (λ (x : Poisoned). poisonedBy x (a .store .now)) (c .before .before .before .before .before .cause .given .1))
 
 pub poison-spec : {M : Type 1} → statement M
 poison-spec =

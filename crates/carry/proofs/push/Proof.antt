@@ -1,36 +1,39 @@
+-- `carry::push` meets its contract: with no row out nothing is stored, and a place that is not there changes nothing.
+use mathlib.Core.Path.{sym, _∙_}
+use Prim.Native.Nat.{_-_}
+use native.Mathlib.Omega.{arith}
+use lib.Seq.{set-out}
+use Rattle.carry.proofs.Carrying.{pushed-none, pushed-on}
 use borrow.Author.Needs.{needs}
 use Rattle.carry.proofs.push.Statement.{statement}
 use Rattle.carry.proofs.push.Tie as tie
-use Rattle.carry.proofs.push.Reads as reads
-use Rattle.carry.proofs.push.Lts as lts
 
--- src/lib.rt:52:9
 returns : tie.Need-returns
-returns c = ?
+returns c =
+    let a = c .before .args in
+    sym (pushed-none (a .live) (a .row) (a .free .now) (omega arith))
 
--- src/lib.rt:54:15
 sub-at : tie.Need-sub-at
 sub-at c = search needs
 
--- src/lib.rt:56:9
 mul-free : tie.Need-mul-free
 mul-free c = search needs
 
--- src/lib.rt:56:9
 slice-write-free : tie.Need-slice-write-free
 slice-write-free c = search needs
 
--- src/lib.rt:48:1
 same-length : tie.Need-same-length
 same-length c = search needs
 
--- src/lib.rt:48:1
 returns-2 : tie.Need-returns-2
-returns-2 c = ?
+returns-2 c =
+    let a = c .before .before .args in
+    sym (pushed-on (a .live) (a .row) (a .free .now) (omega arith))
 
--- src/lib.rt:48:1
 returns-3 : tie.Need-returns-3
-returns-3 c = ?
+returns-3 c =
+    let a = c .before .before .args in
+    sym (pushed-on (a .live) (a .row) (a .free .now) (omega arith) ∙ set-out (a .free .now) (a .live - 1) (a .row) (omega arith))
 
 pub push-spec : {M : Type 1} → statement M
 push-spec =
