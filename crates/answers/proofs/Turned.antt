@@ -1,0 +1,65 @@
+-- An answer or a flush result that is turned away: the row is put back as it was found, and nothing changes.
+use mathlib.Core.Path.{_≡_, refl, sym, ap, _∙_, subst}
+use mathlib.Core.Bool.{Bool, true, false}
+use mathlib.Core.List.{List}
+use Prim.Native.Nat.{ℕ, _<_, _≤_}
+use lib.ListN.{getD, set, take}
+use lib.Seq.{getD-take}
+use Rattle.layout.specs.Pick.{pick}
+use Rattle.layout.proofs.Tests.{not-both}
+use Rattle.completion.specs.declared.Refusal.{Refusal}
+use Rattle.completion.specs.declared.Refusal.the-variants.{UnknownTag}
+use Rattle.completion.specs.declared.Reply.{Reply}
+use Rattle.completion.specs.declared.Reply.the-variants.{No as turnedAway}
+use Rattle.model.specs.declared.Counts.{Counts}
+use Rattle.model.specs.declared.Row.{Row}
+use Rattle.model.specs.declared.Call.{Call}
+use Rattle.model.specs.State.{State, freed}
+use Rattle.model.specs.Memory.{Lent, lengthsOf, sameLengths, settingsIn, stateIn}
+use Rattle.step.specs.Rules.{Input, Fate, Fate.away}
+use Rattle.step.specs.Step.{rowOf, rowAt, names, fateOf, settled, underTag, called}
+use Rattle.step.specs.Sound.{Sound}
+use Rattle.optable.specs.Counted.{acceptedIf, releasedBy}
+use Rattle.called.specs.declared.Touched.{Touched}
+use Rattle.called.specs.Called.{lentOf, awayWith, placeOf, Beyond, CallsTo}
+use Rattle.marks.proofs.Calling.{stepped, put-back}
+
+-- the row that a tag names, of a table in what is lent: within the depth it is the one lent
+pub row-at : (c : Counts) (l : Lent) (r : ℕ) → r < settingsIn (l .store) .depth → getD (l .rows) r (freed 0) ≡ rowAt (stateIn c l) r
+unfolding rowAt stateIn
+row-at c l r below = sym (getD-take (settingsIn (l .store) .depth) (l .rows) r (freed 0) below)
+
+-- under a tag: a tag that names no live row, and one that names a row
+pub unknown : (s : State) (t : ℕ) (i : Input) → names (rowAt s (rowOf t)) t ≡ false → underTag s t i ≡ (s, turnedAway UnknownTag)
+unfolding underTag pick
+unknown s t i e = rw e
+
+pub known : (s : State) (t : ℕ) (i : Input) → names (rowAt s (rowOf t)) t ≡ true → underTag s t i ≡ settled s t (rowAt s (rowOf t)) (fateOf s (rowAt s (rowOf t)) i)
+unfolding underTag pick
+known s t i e = rw e
+
+-- nothing past what the table needs is written where nothing is
+pub beyond-none : (l : Lent) → Beyond (settingsIn (l .store)) l l
+beyond-none l = record { lengths = refl; rows = refl; store = refl; free = refl; ready = refl; owners = refl }
+
+module _ (call : Call) (row : Row) (c : Counts) (rows : List Row) (store free ready owners pool : List ℕ) (found : row ≡ getD rows (placeOf call c free) (freed 0))
+    (same : sameLengths (lengthsOf (lentOf rows store free ready owners pool)) store ≡ true) where
+  abbrev l : Lent
+  l = lentOf rows store free ready owners pool
+
+  abbrev s : State
+  s = stateIn c l
+
+  module _ (f : Refusal) (is : Sound s → called s call ≡ (s, turnedAway f)) where
+    nothing-changed : CallsTo call c l (turnedAway f) c l
+    nothing-changed = record {
+      another-length = λ e. absurd (not-both same e);
+      turned-away = λ g x. (refl, refl);
+      as-step = λ i. stepped call c l same i ∙ is i;
+      beyond = λ i. beyond-none l;
+    }
+
+    pub away-here : (r : Touched) → r ≡ awayWith row f
+        → CallsTo call c l (r .reply) (releasedBy (r .frees) (acceptedIf (r .accepts) c)) (lentOf (set rows (placeOf call c free) (r .row)) store free ready owners pool)
+    unfolding awayWith
+    away-here r e = put-back call row c rows free found l (λ rs. lentOf rs store free ready owners pool) r (turnedAway f) e nothing-changed
