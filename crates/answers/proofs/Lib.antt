@@ -1,3 +1,5 @@
 -- What the proofs of this crate share.
 pub mod Naming
 pub mod Turned
+pub mod Parts
+pub mod Settling
