@@ -3,3 +3,4 @@ pub mod Naming
 pub mod Turned
 pub mod Parts
 pub mod Settling
+pub mod Holding
