@@ -4,3 +4,4 @@ pub mod Turned
 pub mod Parts
 pub mod Settling
 pub mod Holding
+pub mod Wording
