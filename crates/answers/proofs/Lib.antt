@@ -5,3 +5,6 @@ pub mod Parts
 pub mod Settling
 pub mod Holding
 pub mod Wording
+pub mod Replies
+pub mod Carrying
+pub mod Behind
