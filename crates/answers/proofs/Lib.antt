@@ -8,3 +8,5 @@ pub mod Wording
 pub mod Replies
 pub mod Carrying
 pub mod Behind
+pub mod Calling
+pub mod Telling
