@@ -10,3 +10,4 @@ pub mod Carrying
 pub mod Behind
 pub mod Calling
 pub mod Telling
+pub mod Fitting
