@@ -1,12 +1,16 @@
 -- An answer or a flush result that is turned away: the row is put back as it was found, and nothing changes.
 use mathlib.Core.Path.{_≡_, refl, sym, ap, _∙_, subst}
 use mathlib.Core.Bool.{Bool, true, false}
+use mathlib.Core.Logic.{⊎-elim}
 use mathlib.Core.List.{List}
 use Prim.Native.Nat.{ℕ, _<_, _≤_}
-use lib.ListN.{getD, set, take}
+use native.Mathlib.Omega.{arith}
+use borrow.Author.Tests.{ltb-true, ltb-false}
+use lib.ListN.{length, getD, set, take, length-take, List·getD-eq-default}
 use lib.Seq.{getD-take}
+use lib.Dec.{ltb}
 use Rattle.layout.specs.Pick.{pick}
-use Rattle.layout.proofs.Tests.{not-both}
+use Rattle.layout.proofs.Tests.{not-both, true-or-false}
 use Rattle.completion.specs.declared.Refusal.{Refusal}
 use Rattle.completion.specs.declared.Refusal.the-variants.{UnknownTag}
 use Rattle.completion.specs.declared.Reply.{Reply}
@@ -17,7 +21,7 @@ use Rattle.model.specs.declared.Call.{Call}
 use Rattle.model.specs.State.{State, freed}
 use Rattle.model.specs.Memory.{Lent, lengthsOf, sameLengths, settingsIn, stateIn}
 use Rattle.step.specs.Rules.{Input, Fate, Fate.away}
-use Rattle.step.specs.Step.{rowOf, rowAt, names, fateOf, settled, underTag, called}
+use Rattle.step.specs.Step.{rowOf, rowAt, isLive, names, fateOf, settled, underTag, called}
 use Rattle.step.specs.Sound.{Sound}
 use Rattle.optable.specs.Counted.{acceptedIf, releasedBy}
 use Rattle.called.specs.declared.Touched.{Touched}
@@ -37,6 +41,20 @@ unknown s t i e = rw e
 pub known : (s : State) (t : ℕ) (i : Input) → names (rowAt s (rowOf t)) t ≡ true → underTag s t i ≡ settled s t (rowAt s (rowOf t)) (fateOf s (rowAt s (rowOf t)) i)
 unfolding underTag pick
 known s t i e = rw e
+
+-- past the depth the table has no row, whatever is lent there
+pub past-depth : (c : Counts) (l : Lent) (t : ℕ) → settingsIn (l .store) .depth ≤ rowOf t → names (rowAt (stateIn c l) (rowOf t)) t ≡ false
+unfolding rowAt stateIn names isLive freed
+past-depth c l t past =
+    let d = settingsIn (l .store) .depth in
+    let short : length (take d (l .rows)) ≤ rowOf t = simp length-take (omega (arith, past)) in
+    ap (λ (x : Row). names x t) (List·getD-eq-default (take d (l .rows)) (freed 0) short)
+
+-- a tag that does not name the row lent in its place names none of the table's
+pub not-named : (c : Counts) (l : Lent) (t : ℕ) → names (getD (l .rows) (rowOf t) (freed 0)) t ≡ false → names (rowAt (stateIn c l) (rowOf t)) t ≡ false
+not-named c l t e =
+    let d = settingsIn (l .store) .depth in
+    ⊎-elim (λ below. ap (λ (x : Row). names x t) (sym (row-at c l (rowOf t) (ltb-true (rowOf t) d below))) ∙ e) (λ past. past-depth c l t (ltb-false (rowOf t) d past)) (true-or-false (ltb (rowOf t) d))
 
 -- nothing past what the table needs is written where nothing is
 pub beyond-none : (l : Lent) → Beyond (settingsIn (l .store)) l l
