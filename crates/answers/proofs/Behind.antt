@@ -10,7 +10,7 @@ use Rattle.domain.specs.declared.Poisoned.{Poisoned}
 use Rattle.domain.specs.declared.Poisoned.the-variants.{Never, First}
 use Rattle.model.specs.declared.Counts.{Counts}
 use Rattle.model.specs.declared.Row.{Row}
-use Rattle.model.specs.Memory.{Lent, lengthsOf, settingsIn}
+use Rattle.model.specs.Memory.{lengthsOf, settingsIn}
 use Rattle.step.specs.Step.{completionOf}
 use Rattle.publish.proofs.Laws.{queue-laws}
 use Rattle.marks.proofs.Laws.{poison-laws}

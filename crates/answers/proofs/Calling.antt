@@ -1,6 +1,6 @@
 -- An answer or a flush result under a tag that names a live row within the depth: the call as a whole.
 use mathlib.Core.Path.{_≡_, refl, sym, ap, _∙_, subst}
-use mathlib.Core.Bool.{Bool, true, false}
+use mathlib.Core.Bool.{true, false}
 use mathlib.Core.List.{List}
 use Prim.Native.Nat.{ℕ, _<_, _^_}
 use lib.ListN.{getD, set}
@@ -22,8 +22,8 @@ use Rattle.model.specs.State.{Region, State, freed}
 use Rattle.model.specs.Opening.{Plan}
 use Rattle.model.specs.Memory.{Lent, lengthsOf, sameLengths, settingsIn, stateIn}
 use Rattle.step.specs.Questions.{regionAt}
-use Rattle.step.specs.Rules.{Input, Fate}
-use Rattle.step.specs.Step.{rowOf, rowAt, names, bytesAt, planOf, fateOf, settled, underTag, rejection, called, step}
+use Rattle.step.specs.Rules.{Input}
+use Rattle.step.specs.Step.{rowOf, names, bytesAt, planOf, fateOf, settled, underTag, rejection, called}
 use Rattle.step.specs.Lists.{isAway}
 use Rattle.step.specs.Sound.{Sound, TicketFits, rangeEnd}
 use Rattle.step.proofs.Fates.{AwaitsPiece, FateFits, fate-fits}
@@ -85,9 +85,10 @@ module _ (c : Counts) (rows : List Row) (store free ready owners pool : List ℕ
   unchanged : (g : LiveRegion) (f : Finished) (r : Touched) → TouchedBy f t row g store r → RejectsPiece f (row .awaits) → (x : Refusal) → r .reply ≡ turnedAway x
       → (releasedBy (r .frees) (acceptedIf (r .accepts) c) ≡ c) × (after f r ≡ l)
   unfolding TouchedBy RejectsPiece awayWith releasedBy acceptedIf pick storeBy freeBy readyBy ownersBy poolBy isAway
-  unchanged g (Away f) r e piece x is =
-      (ap (λ (y : Touched). releasedBy (y .frees) (acceptedIf (y .accepts) c)) e,
-      ap (λ (y : Touched). after (Away f) y) e ∙ ap (λ (rs : List Row). lentOf rs store free ready owners pool) (ap (set rows (rowOf t)) found ∙ set-getD rows (rowOf t) (freed 0)))
+  unchanged g (Away f) r e piece x is = (
+    ap (λ (y : Touched). releasedBy (y .frees) (acceptedIf (y .accepts) c)) e,
+    ap (λ (y : Touched). after (Away f) y) e ∙ ap (λ (rs : List Row). lentOf rs store free ready owners pool) (ap (set rows (rowOf t)) found ∙ set-getD rows (rowOf t) (freed 0)),
+  )
   unchanged g (Next a turn) r e piece x is = not-away (r .reply) x (asks-on a store row t (r .reply) (e .0)) is
   unchanged g (Ended o b turn cause) r e piece x is = not-away (r .reply) x (ap (λ (y : Touched). isAway (y .reply)) e) is
   unchanged g (Rejected e b) r back piece x is =

@@ -1,5 +1,5 @@
 -- What becomes of the operation that a tag names, carried into what is lent, is the step's: by cases of what becomes of it.
-use mathlib.Core.Path.{_≡_, refl, sym, ap, _∙_, subst}
+use mathlib.Core.Path.{_≡_, sym, ap, _∙_}
 use mathlib.Core.Bool.{true}
 use mathlib.Core.List.{List}
 use Prim.Native.Nat.{ℕ, _<_, _^_}
@@ -16,7 +16,6 @@ use Rattle.model.specs.declared.Counts.{Counts}
 use Rattle.model.specs.declared.Opening.{Opening}
 use Rattle.model.specs.declared.Row.{Row}
 use Rattle.model.specs.State.{State, freed}
-use Rattle.model.specs.Opening.{Plan}
 use Rattle.model.specs.Memory.{Lent, OutcomeFits, CompletionFits, lengthsOf, sameLengths, settingsIn, stateIn}
 use Rattle.step.specs.Questions.{regionAt}
 use Rattle.step.specs.Step.{rowOf, names, bytesAt, planOf, settled, rejection, completionOf}
@@ -74,15 +73,19 @@ module _ (c : Counts) (rows : List Row) (store free ready owners pool : List ℕ
         (λ j. (stateIn c (lentOf (sym (ap (set rows (rowOf t)) found ∙ set-getD rows (rowOf t) (freed 0)) j) store free ready owners pool), turnedAway f))
         ∙ ap (result (Away f)) (sym e)
     by-fate (Next a turn) r e words fits =
-        (λ j. (sym (going-in c rows store free ready owners pool (rowOf t) row (held c rows store free ready owners pool i same t row found below named) a turn) j,
-        sym (asked c rows store free ready owners pool i same t row (in-table c rows store free ready owners pool i same t row found below named) small a (fits .0) (r .reply) (e .0)) j))
+        (λ j. (
+          sym (going-in c rows store free ready owners pool (rowOf t) row (held c rows store free ready owners pool i same t row found below named) a turn) j,
+          sym (asked c rows store free ready owners pool i same t row (in-table c rows store free ready owners pool i same t row found below named) small a (fits .0) (r .reply) (e .0)) j,
+        ))
         ∙ ap (result (Next a turn)) (sym (e .1))
     by-fate (Ended o b turn cause) r e words fits =
         (λ j. (sym (ended-in c rows store free ready owners pool (rowOf t) row (held c rows store free ready owners pool i same t row found below named) o b turn cause (completes (settingsIn store) row o b (words .0)) (cause-is cause (words .1))) j, Done t))
         ∙ ap (result (Ended o b turn cause)) (sym e)
     by-fate (Rejected e b) r is words fits =
-        (λ j. (sym (rejected-in c rows store free ready owners pool (rowOf t) row (held c rows store free ready owners pool i same t row found below named) b) j,
-        rejection (sym plan-is j) (row .awaits) e b))
+        (λ j. (
+          sym (rejected-in c rows store free ready owners pool (rowOf t) row (held c rows store free ready owners pool i same t row found below named) b) j,
+          rejection (sym plan-is j) (row .awaits) e b,
+        ))
         ∙ ap (result (Rejected e b)) (sym (is (regionAt s (row .handle) .map)))
 
     -- with the parts of what is lent as the code leaves them

@@ -1,12 +1,12 @@
 -- Of a sound table: the piece under way that the code finds is the map's, and what is done with it a number of 64 bits.
-use mathlib.Core.Path.{_≡_, refl, ap, _∙_, subst}
+use mathlib.Core.Path.{_≡_, ap, _∙_, subst}
 use mathlib.Core.Bool.{true}
 use mathlib.Core.List.{List}
 use Prim.Native.Nat.{ℕ, _+_, _-_, _≤_, _<_, _^_}
 use native.Mathlib.Nat.{mod-eq-of-lt}
 use native.Mathlib.Omega.{arith}
 use Rattle.regionmap.specs.declared.FoundPiece.{FoundPiece}
-use Rattle.regionmap.specs.Map.{Map, pieceSize}
+use Rattle.regionmap.specs.Map.{Map}
 use Rattle.regionmap.specs.Words.{wrap64}
 use Rattle.regionmap.proofs.Laws.{map-laws}
 use Rattle.model.specs.declared.Counts.{Counts}

@@ -1,6 +1,6 @@
 -- What becomes of an operation, carried into what is lent, is what the step makes of the state.
-use mathlib.Core.Path.{_≡_, refl, sym, ap, _∙_}
-use mathlib.Core.Option.{Option, none}
+use mathlib.Core.Path.{_≡_, sym, ap, _∙_}
+use mathlib.Core.Option.{none}
 use mathlib.Core.List.{List, [], _∷_, _++_, append-nil}
 use Prim.Native.Nat.{ℕ, _+_, _-_, _≤_, _<_, _%_, _^_}
 use native.Mathlib.Nat.{mod-eq-of-lt}
@@ -12,7 +12,6 @@ use Rattle.iobuf.specs.Turn.{stretch, withStretch}
 use Rattle.iobuf.specs.TurnLaws.{Fits}
 use Rattle.iobuf.proofs.Laws.{turn-laws}
 use Rattle.domain.specs.declared.Poisoned.{Poisoned}
-use Rattle.domain.specs.declared.OsError.{OsError}
 use Rattle.completion.specs.declared.Outcome.{Outcome}
 use Rattle.completion.specs.declared.Buffer.{Buffer}
 use Rattle.completion.specs.declared.Completion.{Completion}

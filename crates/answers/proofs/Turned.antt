@@ -1,6 +1,6 @@
 -- An answer or a flush result that is turned away: the row is put back as it was found, and nothing changes.
-use mathlib.Core.Path.{_≡_, refl, sym, ap, _∙_, subst}
-use mathlib.Core.Bool.{Bool, true, false}
+use mathlib.Core.Path.{_≡_, refl, sym, ap, _∙_}
+use mathlib.Core.Bool.{true, false}
 use mathlib.Core.Logic.{⊎-elim}
 use mathlib.Core.List.{List}
 use Prim.Native.Nat.{ℕ, _<_, _≤_}
@@ -13,14 +13,13 @@ use Rattle.layout.specs.Pick.{pick}
 use Rattle.layout.proofs.Tests.{not-both, true-or-false}
 use Rattle.completion.specs.declared.Refusal.{Refusal}
 use Rattle.completion.specs.declared.Refusal.the-variants.{UnknownTag}
-use Rattle.completion.specs.declared.Reply.{Reply}
 use Rattle.completion.specs.declared.Reply.the-variants.{No as turnedAway}
 use Rattle.model.specs.declared.Counts.{Counts}
 use Rattle.model.specs.declared.Row.{Row}
 use Rattle.model.specs.declared.Call.{Call}
 use Rattle.model.specs.State.{State, freed}
 use Rattle.model.specs.Memory.{Lent, lengthsOf, sameLengths, settingsIn, stateIn}
-use Rattle.step.specs.Rules.{Input, Fate, Fate.away}
+use Rattle.step.specs.Rules.{Input}
 use Rattle.step.specs.Step.{rowOf, rowAt, isLive, names, fateOf, settled, underTag, called}
 use Rattle.step.specs.Sound.{Sound}
 use Rattle.optable.specs.Counted.{acceptedIf, releasedBy}

@@ -1,16 +1,13 @@
 -- What the rules make of an operation lies in words: its errors have 32 bits, its tickets are the opening's, and its receipts are those for its tickets.
 use mathlib.Core.Path.{_≡_, refl, sym, subst}
-use mathlib.Core.Bool.{Bool, true, false, _||_}
+use mathlib.Core.Bool.{Bool, _||_}
 use mathlib.Core.Option.{Option, none, some}
 use mathlib.Core.List.{List}
-use Prim.Native.Nat.{ℕ, _<_, _^_, _-_, _%_}
+use Prim.Native.Nat.{ℕ, _<_, _^_}
 use native.Mathlib.Nat.{mod-lt}
 use native.Mathlib.Omega.{arith}
 use lib.ListN.{getD}
-use Rattle.layout.specs.Pick.{pick}
 use Rattle.domain.specs.declared.FirstCause.{FirstCause}
-use Rattle.domain.specs.declared.OsError.{OsError}
-use Rattle.domain.specs.declared.OsError.the-variants.{None as noError, Raw}
 use Rattle.domain.specs.declared.Poisoned.{Poisoned}
 use Rattle.domain.specs.declared.Poisoned.the-variants.{Never, First}
 use Rattle.platform.specs.declared.Answer.{Answer}
@@ -19,7 +16,6 @@ use Rattle.platform.specs.declared.Flushed.{Flushed}
 use Rattle.platform.specs.declared.Flushed.the-variants.{Need, Unknown as unsure, Poisoned as failedBy}
 use Rattle.completion.specs.declared.WriteTicket.{WriteTicket}
 use Rattle.completion.specs.declared.Range.{Range}
-use Rattle.completion.specs.declared.Outcome.{Outcome}
 use Rattle.completion.specs.declared.Buffer.{Buffer}
 use Rattle.model.specs.declared.Opening.{Opening}
 use Rattle.model.specs.declared.Kind.{Kind}

@@ -36,7 +36,20 @@ fn under_way(store: &[u64], row: Row) -> u64
 }
 
 // An answer arrives.
-pub fn answer(qtag: u64, answer: Answer, back: bool, flushes: u64, row: Row, counts: Counts, rows: usize, store: &mut [u64], free: &mut [u64], ready: &mut [u64], owners: &mut [u64], pool: &mut [u8]) -> Touched
+pub fn answer(
+    qtag: u64,
+    answer: Answer,
+    back: bool,
+    flushes: u64,
+    row: Row,
+    counts: Counts,
+    rows: usize,
+    store: &mut [u64],
+    free: &mut [u64],
+    ready: &mut [u64],
+    owners: &mut [u64],
+    pool: &mut [u8],
+) -> Touched
     ensures { λ r. ⌜ ArmTo (answerCall qtag answer back flushes) row counts rows (now (store .entry)) (now (free .entry)) (now (ready .entry)) (now (owners .entry)) (now (pool .entry)) r (now (store .exit)) (now (free .exit)) (now (ready .exit)) (now (owners .exit)) (now (pool .exit)) ⌝ }
 {
     if !named(row, qtag) {
@@ -51,7 +64,18 @@ pub fn answer(qtag: u64, answer: Answer, back: bool, flushes: u64, row: Row, cou
 }
 
 // A flush result arrives.
-pub fn flushed(qtag: u64, result: Flushed, row: Row, counts: Counts, rows: usize, store: &mut [u64], free: &mut [u64], ready: &mut [u64], owners: &mut [u64], pool: &mut [u8]) -> Touched
+pub fn flushed(
+    qtag: u64,
+    result: Flushed,
+    row: Row,
+    counts: Counts,
+    rows: usize,
+    store: &mut [u64],
+    free: &mut [u64],
+    ready: &mut [u64],
+    owners: &mut [u64],
+    pool: &mut [u8],
+) -> Touched
     ensures { λ r. ⌜ ArmTo (flushedCall qtag result) row counts rows (now (store .entry)) (now (free .entry)) (now (ready .entry)) (now (owners .entry)) (now (pool .entry)) r (now (store .exit)) (now (free .exit)) (now (ready .exit)) (now (owners .exit)) (now (pool .exit)) ⌝ }
 {
     if !named(row, qtag) {

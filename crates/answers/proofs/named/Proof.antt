@@ -1,5 +1,4 @@
 -- `answers::named` meets its contract: each arm knows whether the row awaits something.
-use mathlib.Core.Path.{_≡_, refl, sym, ap}
 use Rattle.step.specs.Step.{isLive, names, generationOf}
 use Rattle.answers.proofs.Naming.{awaited}
 use borrow.Author.Needs.{needs}
