@@ -72,11 +72,11 @@ module _ (o : Opening) (g : LiveRegion) (m : Map) (first : Poisoned) (row : Row)
   Answered r w = PieceFits g m piece w → Tells r (λ bytes. answerRules o (planWith g m) (g .forced) first row bytes answer back flushes w)
 
   pub awaits-piece : (r : Finished) (k : Kind) (s : Split) (w : Awaits) → w ≡ Piece k s
-      → (s .done + piece < 2 ^ 64 → Tells r (λ bytes. pieceAnswered o (planWith g m) (g .forced) first row k s piece bytes answer back flushes)) → Answered r w
+      → (g .generation < 2 ^ 32 → s .done + piece < 2 ^ 64 → Tells r (λ bytes. pieceAnswered o (planWith g m) (g .forced) first row k s piece bytes answer back flushes)) → Answered r w
   unfolding PieceFits answerRules
   awaits-piece r k s w e told =
       subst (Answered r) (sym e)
-      (λ fits bytes. told (fits .1) bytes ∙ ap (λ (n : ℕ). pieceAnswered o (planWith g m) (g .forced) first row k s n bytes answer back flushes) (fits .0))
+      (λ fits bytes. told (fits .2) (fits .1) bytes ∙ ap (λ (n : ℕ). pieceAnswered o (planWith g m) (g .forced) first row k s n bytes answer back flushes) (fits .0))
 
   -- what a row may await that is no piece, by its number
   abbrev no-pieces : List ℕ

@@ -107,7 +107,7 @@ pub fn finish(
     back: bool,
     flushes: u64,
 ) -> Finished
-    ensures { λ r. ⌜ ((m : Map) → g .generation < 2 ^ 32 → PieceFits g m piece (row .awaits) → Tells r (λ bytes. rules o (planWith g m) (g .forced) first row bytes (answered answer back flushes))) ⌝ }
+    ensures { λ r. ⌜ ((m : Map) → PieceFits g m piece (row .awaits) → Tells r (λ bytes. rules o (planWith g m) (g .forced) first row bytes (answered answer back flushes))) ⌝ }
 {
     let awaits = row.awaits;
     match awaits {

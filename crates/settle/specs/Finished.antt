@@ -47,10 +47,10 @@ CountFits s (Error e media) = Unit {0}
 CountFits s Refused = Unit {0}
 CountFits s (RefusedWith e media) = Unit {0}
 
--- what is supposed of a piece under way, as a sound table has it: the piece's length is the map's, and done + piece a number of 64 bits
+-- what is supposed of a piece under way, as a sound table has it: the piece's length is the map's, done + piece a number of 64 bits, and the region's generation one of 32
 unfoldable pub PieceFits : LiveRegion → Map → ℕ → Awaits → Type 0
 PieceFits g m piece Nothing = Unit {0}
-PieceFits g m piece (Piece k s) = (piece ≡ pieceLength (planWith g m) k s) × (s .done + piece < 2 ^ 64)
+PieceFits g m piece (Piece k s) = (piece ≡ pieceLength (planWith g m) k s) × (s .done + piece < 2 ^ 64) × (g .generation < 2 ^ 32)
 PieceFits g m piece (Flush t) = Unit {0}
 
 -- the values tell this fate, of any bytes

@@ -15,13 +15,13 @@ returns : tie.Need-returns
 unfolding rules
 returns c =
     let a = c .before .before .before .before .args in
-    λ m short. awaits-piece (a .o) (a .g) m (a .first) (a .row) (a .piece) (a .answer) (a .back) (a .flushes) _ _ _ (a .row .awaits) (c .before .before .awaits .given .1) (c .finish-piece .ensures m short)
+    λ m. awaits-piece (a .o) (a .g) m (a .first) (a .row) (a .piece) (a .answer) (a .back) (a .flushes) _ _ _ (a .row .awaits) (c .before .before .awaits .given .1) (c .finish-piece .ensures m)
 
 returns-2 : tie.Need-returns-2
 unfolding rules
 returns-2 c =
     let a = c .before .args in
-    λ m short. no-piece (a .o) (a .g) m (a .first) (a .row) (a .piece) (a .answer) (a .back) (a .flushes) (a .row .awaits) (c .match .keys2)
+    λ m. no-piece (a .o) (a .g) m (a .first) (a .row) (a .piece) (a .answer) (a .back) (a .flushes) (a .row .awaits) (c .match .keys2)
 
 pub finish-spec : {M : Type 1} → statement M
 finish-spec = tie.close (tie.spec enum-known-awaits finish-piece-requires returns returns-2)

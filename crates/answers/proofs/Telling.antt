@@ -1,0 +1,34 @@
+-- A flush result rejects nothing: only an operation whose first piece is refused is.
+use mathlib.Core.Path.{_≡_, sym, subst}
+use mathlib.Core.List.{List}
+use Prim.Native.Nat.{ℕ}
+use Rattle.platform.specs.declared.Flushed.{Flushed}
+use Rattle.model.specs.declared.Opening.{Opening}
+use Rattle.model.specs.declared.Awaits.{Awaits}
+use Rattle.model.specs.declared.Awaits.the-variants.{Nothing, Piece, Flush}
+use Rattle.model.specs.declared.Row.{Row}
+use Rattle.step.specs.Rules.{Fate, Fate.away, Fate.awaits, Fate.ends, Fate.rejected, flushEnds, flushRules}
+use Rattle.settle.specs.declared.Finished.{Finished}
+use Rattle.settle.specs.declared.Finished.the-variants.{Away, Next, Ended, Rejected}
+use Rattle.settle.specs.Finished.{fateBy}
+use Rattle.answers.proofs.Calling.{RejectsPiece}
+
+abbrev Kept : Fate → Type 0
+Kept (away f) = Unit {0}
+Kept (awaits a bytes) = Unit {0}
+Kept (ends o b bytes cause) = Unit {0}
+Kept (rejected e b bytes) = ⊥
+
+flush-keeps : (o : Opening) (row : Row) (bytes : List ℕ) (result : Flushed) (a : Awaits) → Kept (flushRules o row bytes result a)
+unfolding flushRules flushEnds
+flush-keeps o row bytes result Nothing = tt
+flush-keeps o row bytes result (Piece k s) = tt
+flush-keeps o row bytes result (Flush t) = tt
+
+-- .. so that what is told of it rejects nothing either
+pub flush-rejects : (o : Opening) (row : Row) (bytes : List ℕ) (result : Flushed) (a : Awaits) (f : Finished) (b : Awaits) → fateBy f bytes ≡ flushRules o row bytes result a → RejectsPiece f b
+unfolding fateBy RejectsPiece
+flush-rejects o row bytes result a (Away f) b e = tt
+flush-rejects o row bytes result a (Next now t) b e = tt
+flush-rejects o row bytes result a (Ended x buf t cause) b e = tt
+flush-rejects o row bytes result a (Rejected err buf) b e = absurd (subst Kept (sym e) (flush-keeps o row bytes result a))
