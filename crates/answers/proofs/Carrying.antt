@@ -62,7 +62,7 @@ module _ (c : Counts) (rows : List Row) (store free ready owners pool : List ℕ
   result f x = (stateIn (releasedBy (x .frees) (acceptedIf (x .accepts) c)) (after f x), x .reply)
 
   module _ (g : LiveRegion) (g-is : g ≡ liveOf (regionAt s (row .handle))) where
-    plan-is : planWith g (regionAt s (row .handle) .map) ≡ planOf (regionAt s (row .handle))
+    pub plan-is : planWith g (regionAt s (row .handle) .map) ≡ planOf (regionAt s (row .handle))
     unfolding planWith planOf liveOf
     plan-is = ap (λ (x : LiveRegion). planWith x (regionAt s (row .handle) .map)) g-is
 

@@ -50,9 +50,10 @@ module _ (c : Counts) (rows : List Row) (store free ready owners pool : List ℕ
 
   module _ (region : h < settingsIn store .regions) (among : h < s .settings .regions) (g : LiveRegion) (n : ℕ) where
     piece-fits : (k : Kind) (sp : Split) → SplitFits (Piece k sp) → rangeEnd (Piece k sp) ≤ m .dataLength → rangeEnd (Piece k sp) < 2 ^ 64 → PieceUnderWay store h k sp n
-        → (n ≡ pieceLength (planWith g m) k sp) × (sp .done + n < 2 ^ 64)
+        → g .generation < 2 ^ 32
+        → (n ≡ pieceLength (planWith g m) k sp) × (sp .done + n < 2 ^ 64) × (g .generation < 2 ^ 32)
     unfolding pieceLength pieceOf planWith wrap64
-    piece-fits k sp split in-data small u =
+    piece-fits k sp split in-data small u short =
         let p = firstOf k .0 + sp .done in
         let left = sp .total - sp .done in
         let lawful = i .each h among .lawful in
@@ -65,10 +66,10 @@ module _ (c : Counts) (rows : List Row) (store free ready owners pool : List ℕ
         let is = subst (λ (x : ℕ). PieceIn store h x left (u .found)) wraps (u .is) in
         let e = u .length ∙ ap (λ (x : FoundPiece). x .count) (piece-there c rows store free ready owners pool i same h region p left (omega (arith, on-data, within)) (u .found) is) in
         let most = map-laws .one-piece m lawful p left (omega (arith, some)) on-data .most in
-        (e, omega (arith, e, most, some, end, small))
+        (e, omega (arith, e, most, some, end, small), short)
 
-    pub under-way-fits : (a : Awaits) → SplitFits a → rangeEnd a ≤ m .dataLength → rangeEnd a < 2 ^ 64 → UnderWay store h a n → PieceFits g m n a
+    pub under-way-fits : (a : Awaits) → SplitFits a → rangeEnd a ≤ m .dataLength → rangeEnd a < 2 ^ 64 → UnderWay store h a n → g .generation < 2 ^ 32 → PieceFits g m n a
     unfolding UnderWay PieceFits
-    under-way-fits Nothing split in-data small u = tt
-    under-way-fits (Piece k sp) split in-data small u = piece-fits k sp split in-data small u
-    under-way-fits (Flush t) split in-data small u = tt
+    under-way-fits Nothing split in-data small u short = tt
+    under-way-fits (Piece k sp) split in-data small u short = piece-fits k sp split in-data small u short
+    under-way-fits (Flush t) split in-data small u short = tt

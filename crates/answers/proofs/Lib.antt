@@ -11,3 +11,5 @@ pub mod Behind
 pub mod Calling
 pub mod Telling
 pub mod Fitting
+pub mod Raw
+pub mod Arriving

@@ -58,25 +58,3 @@ not-named c l t e =
 -- nothing past what the table needs is written where nothing is
 pub beyond-none : (l : Lent) → Beyond (settingsIn (l .store)) l l
 beyond-none l = record { lengths = refl; rows = refl; store = refl; free = refl; ready = refl; owners = refl }
-
-module _ (call : Call) (row : Row) (c : Counts) (rows : List Row) (store free ready owners pool : List ℕ) (found : row ≡ getD rows (placeOf call c free) (freed 0))
-    (same : sameLengths (lengthsOf (lentOf rows store free ready owners pool)) store ≡ true) where
-  abbrev l : Lent
-  l = lentOf rows store free ready owners pool
-
-  abbrev s : State
-  s = stateIn c l
-
-  module _ (f : Refusal) (is : Sound s → called s call ≡ (s, turnedAway f)) where
-    nothing-changed : CallsTo call c l (turnedAway f) c l
-    nothing-changed = record {
-      another-length = λ e. absurd (not-both same e);
-      turned-away = λ g x. (refl, refl);
-      as-step = λ i. stepped call c l same i ∙ is i;
-      beyond = λ i. beyond-none l;
-    }
-
-    pub away-here : (r : Touched) → r ≡ awayWith row f
-        → CallsTo call c l (r .reply) (releasedBy (r .frees) (acceptedIf (r .accepts) c)) (lentOf (set rows (placeOf call c free) (r .row)) store free ready owners pool)
-    unfolding awayWith
-    away-here r e = put-back call row c rows free found l (λ rs. lentOf rs store free ready owners pool) r (turnedAway f) e nothing-changed

@@ -3,14 +3,17 @@ ghost use mathlib.Core.Path.{_≡_};
 ghost use Rattle.model.specs.declared.Call.the-variants.{Answer as answerCall, Flushed as flushedCall};
 ghost use Rattle.step.specs.Step.{names};
 ghost use Rattle.called.specs.Called.{ArmTo};
-ghost use Rattle.answers.specs.UnderWay.{UnderWay};
+ghost use Rattle.answers.specs.UnderWay.{knownAs, UnderWay, FinishedIn, FlushedIn};
 use called::Touched;
 use completion::Refusal;
+use liveregion::LiveRegion;
 use model::Awaits;
 use model::Counts;
+use model::Opening;
 use model::Row;
 use platform::Answer;
 use platform::Flushed;
+use settle::Finished;
 
 // "Does the tag name a live row with its generation?"
 fn named(row: Row, qtag: u64) -> bool
@@ -24,6 +27,16 @@ fn named(row: Row, qtag: u64) -> bool
     }
 }
 
+// Whether a tag names a row of the table: row memory may be longer than the depth.
+fn known(o: Opening, row: Row, qtag: u64) -> bool
+    ensures { λ r. ⌜ r ≡ knownAs o row qtag ⌝ }
+{
+    if qtag % 0x1_0000_0000 < o.depth {
+        return named(row, qtag);
+    }
+    false
+}
+
 // The length of the piece under way; 0 where none is.
 fn under_way(store: &[u64], row: Row) -> u64
     ensures { λ r. ⌜ UnderWay (now (store .entry)) (row .handle) (row .awaits) r ⌝ }
@@ -33,6 +46,37 @@ fn under_way(store: &[u64], row: Row) -> u64
         Awaits::Piece(kind, split) => carry::piece_of(store, row.handle, kind, split).count,
         _ => 0,
     }
+}
+
+// What becomes of the operation in a row when an answer arrives under a tag.
+fn finished(
+    qtag: u64,
+    o: Opening,
+    g: LiveRegion,
+    row: Row,
+    answer: Answer,
+    back: bool,
+    flushes: u64,
+    store: &[u64],
+) -> Finished
+    ensures { λ r. ⌜ FinishedIn qtag o g row answer back flushes (now (store .entry)) r ⌝ }
+{
+    if !known(o, row, qtag) {
+        return Finished::Away(Refusal::UnknownTag);
+    }
+    let first = liveregion::poisoned(store);
+    let piece = under_way(store, row);
+    finish::finish(o, g, first, row, piece, answer, back, flushes)
+}
+
+// .. and when a flush result does.
+fn flush_finished(qtag: u64, o: Opening, row: Row, result: Flushed) -> Finished
+    ensures { λ r. ⌜ FlushedIn qtag o row result r ⌝ }
+{
+    if !known(o, row, qtag) {
+        return Finished::Away(Refusal::UnknownTag);
+    }
+    finish::flushed(o, row, result)
 }
 
 // An answer arrives.
@@ -52,14 +96,9 @@ pub fn answer(
 ) -> Touched
     ensures { λ r. ⌜ ArmTo (answerCall qtag answer back flushes) row counts rows (now (store .entry)) (now (free .entry)) (now (ready .entry)) (now (owners .entry)) (now (pool .entry)) r (now (store .exit)) (now (free .exit)) (now (ready .exit)) (now (owners .exit)) (now (pool .exit)) ⌝ }
 {
-    if !named(row, qtag) {
-        return called::away(row, Refusal::UnknownTag);
-    }
     let o = settings::settings(store);
     let g = liveregion::region_at(store, row.handle);
-    let first = liveregion::poisoned(store);
-    let piece = under_way(store, row);
-    let f = finish::finish(o, g, first, row, piece, answer, back, flushes);
+    let f = finished(qtag, o, g, row, answer, back, flushes, store);
     carry::carry(f, qtag, row, o, g, counts, store, free, ready, owners, pool)
 }
 
@@ -78,11 +117,8 @@ pub fn flushed(
 ) -> Touched
     ensures { λ r. ⌜ ArmTo (flushedCall qtag result) row counts rows (now (store .entry)) (now (free .entry)) (now (ready .entry)) (now (owners .entry)) (now (pool .entry)) r (now (store .exit)) (now (free .exit)) (now (ready .exit)) (now (owners .exit)) (now (pool .exit)) ⌝ }
 {
-    if !named(row, qtag) {
-        return called::away(row, Refusal::UnknownTag);
-    }
     let o = settings::settings(store);
     let g = liveregion::region_at(store, row.handle);
-    let f = finish::flushed(o, row, result);
+    let f = flush_finished(qtag, o, row, result);
     carry::carry(f, qtag, row, o, g, counts, store, free, ready, owners, pool)
 }

@@ -1,0 +1,63 @@
+-- `answers::answer` meets its contract: what its callees read, found and wrote.
+use Rattle.answers.proofs.Raw.{answer-fits, row-fits}
+use Rattle.answers.proofs.Arriving.{answer-arrives}
+use Rattle.called.specs.Called.{placeOf}
+use borrow.Author.Needs.{needs}
+use Rattle.answers.proofs.answer.Statement.{statement}
+use Rattle.answers.proofs.answer.Tie as tie
+
+settings-requires : tie.Need-settings-requires
+settings-requires c κs = search needs
+
+region-at-requires : tie.Need-region-at-requires
+region-at-requires c κs = search needs
+
+finished-requires : tie.Need-finished-requires
+finished-requires c κs = search needs
+
+carry-requires : tie.Need-carry-requires
+carry-requires c κs = search needs
+
+same-length : tie.Need-same-length
+same-length c = search needs
+
+same-length-2 : tie.Need-same-length-2
+same-length-2 c = search needs
+
+same-length-3 : tie.Need-same-length-3
+same-length-3 c = search needs
+
+same-length-4 : tie.Need-same-length-4
+same-length-4 c = search needs
+
+same-length-5 : tie.Need-same-length-5
+same-length-5 c = search needs
+
+returns : tie.Need-returns
+unfolding placeOf
+returns c =
+    let carried = c .before .before .before .before .before .before .before .before .before .before in
+    let done = carried .before .before .before .before .before .before in
+    let region = done .before .before in
+    let settings = region .before .before in
+    let start = settings .before .before .before .before .before .before .before in
+    let a = start .args in
+    λ rows n found same.
+    answer-arrives (a .counts) rows (a .store .now) (a .free .now) (a .ready .now) (a .owners .now) (a .pool .now) (a .qtag) (a .row) found same
+    (settings .settings .result) (settings .settings .ensures) (region .region-at .result) (region .region-at .ensures) (row-fits (a .row) _ (start .good .1 .1 .1 .1 .0))
+    (done .finished .result) (carried .carry .result) _ _ _ _ _ (carried .carry .ensures) (a .answer) (a .back) (a .flushes) (answer-fits (a .answer) _ (start .good .1 .0)) (done .finished .ensures)
+
+pub answer-spec : {M : Type 1} → statement M
+answer-spec =
+    tie.close
+    (tie.spec
+    settings-requires
+    region-at-requires
+    finished-requires
+    carry-requires
+    same-length
+    same-length-2
+    same-length-3
+    same-length-4
+    same-length-5
+    returns)
