@@ -13,8 +13,6 @@ use Rattle.model.specs.declared.Counts.{Counts}
 use Rattle.model.specs.declared.Row.{Row}
 use Rattle.model.specs.declared.Call.{Call}
 use Rattle.model.specs.declared.Call.the-variants.{Write, ReadPage, Answer, Flushed, Take, SetGate, SetReadOnly, SetForced, ReportPoison}
-use Rattle.model.specs.declared.Submit.{Submit}
-use Rattle.model.specs.declared.Submit.the-variants.{Write as WriteNow, ReadPage as ReadNow}
 use Rattle.model.specs.declared.Lookup.{Lookup}
 use Rattle.model.specs.State.{freed}
 use Rattle.model.specs.Opening.{storeWords, readyWords}
@@ -24,11 +22,6 @@ use Rattle.step.specs.Sound.{Sound}
 use Rattle.optable.specs.declared.Frees.the-variants.{Nothing as none}
 use Rattle.optable.specs.Counted.{acceptedIf, releasedBy}
 use Rattle.called.specs.declared.Touched.{Touched}
-
--- a submission as a call
-unfoldable pub asCall : Submit → Call
-asCall (WriteNow q) = Write q
-asCall (ReadNow q) = ReadPage q
 
 -- what a host lends
 abbrev pub lentOf : List Row → List ℕ → List ℕ → List ℕ → List ℕ → List ℕ → Lent

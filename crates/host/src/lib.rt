@@ -1,13 +1,13 @@
 // A table whose rows and counts a program in Rattle holds by value: they are lent to the submitter's calls here, so that the program needs no
 // reference to a row. 64 rows, whatever the depth: row memory may be longer than the depth.
 ghost use mathlib.Core.Path.{_≡_};
-ghost use Rattle.called.specs.Called.{asCall, lentOf, CallsTo};
+ghost use Rattle.called.specs.Called.{lentOf, CallsTo};
 ghost use Rattle.submitter.specs.Open.{OpensTo};
 use completion::Reply;
+use model::Call;
 use model::Counts;
 use model::Opening;
 use model::Row;
-use model::Submit;
 use submitter::Opened;
 
 // The rows after an opening, and its reply.
@@ -43,7 +43,7 @@ pub fn open_in(
 
 // One call (submitter::call) over rows and counts that are held by value.
 pub fn call_in(
-    call: Submit,
+    call: Call,
     counts: Counts,
     rows: [Row; 64],
     store: &mut [u64],
@@ -52,7 +52,7 @@ pub fn call_in(
     owners: &mut [u64],
     pool: &mut [u8],
 ) -> CalledIn
-    ensures { λ r. ⌜ CallsTo (asCall call) counts (lentOf rows (now (store .entry)) (now (free .entry)) (now (ready .entry)) (now (owners .entry)) (now (pool .entry))) (r .reply) (r .counts) (lentOf (r .rows) (now (store .exit)) (now (free .exit)) (now (ready .exit)) (now (owners .exit)) (now (pool .exit))) ⌝ }
+    ensures { λ r. ⌜ CallsTo call counts (lentOf rows (now (store .entry)) (now (free .entry)) (now (ready .entry)) (now (owners .entry)) (now (pool .entry))) (r .reply) (r .counts) (lentOf (r .rows) (now (store .exit)) (now (free .exit)) (now (ready .exit)) (now (owners .exit)) (now (pool .exit))) ⌝ }
 {
     let mut held = rows;
     let mut counted = counts;

@@ -125,12 +125,6 @@ pub enum Call {
     ReportPoison(FirstCause),
 }
 
-// The submissions among the calls.
-pub enum Submit {
-    Write(Request),
-    ReadPage(Request),
-}
-
 // "lookups: whether a write still awaits a piece; the mark"
 pub enum Lookup {
     WritesLive,

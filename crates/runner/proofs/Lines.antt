@@ -4,7 +4,7 @@ use mathlib.Core.List.{List, []}
 use Prim.Native.Nat.{ℕ}
 use Rattle.model.specs.declared.Counts.{Counts}
 use Rattle.model.specs.declared.Request.{Request}
-use Rattle.model.specs.declared.Submit.the-variants.{Write as write, ReadPage as readPage}
+use Rattle.model.specs.declared.Call.the-variants.{Write as write, ReadPage as readPage}
 use Rattle.model.specs.Memory.{Lent}
 use Rattle.trace.specs.declared.Submission.{Submission}
 use Rattle.trace.specs.declared.Line.{Line}

@@ -6,10 +6,10 @@ use Rattle.regionmap.specs.Words.{positionOf}
 use Rattle.completion.specs.declared.Reply.{Reply}
 use Rattle.model.specs.declared.Counts.{Counts}
 use Rattle.model.specs.declared.Request.{Request}
-use Rattle.model.specs.declared.Submit.{Submit}
-use Rattle.model.specs.declared.Submit.the-variants.{Write as write, ReadPage as readPage}
+use Rattle.model.specs.declared.Call.{Call}
+use Rattle.model.specs.declared.Call.the-variants.{Write as write, ReadPage as readPage}
 use Rattle.model.specs.Memory.{Lent}
-use Rattle.called.specs.Called.{asCall, CallsTo}
+use Rattle.called.specs.Called.{CallsTo}
 use Rattle.trace.specs.declared.Submission.{Submission}
 use Rattle.trace.specs.declared.Line.{Line}
 use Rattle.trace.specs.declared.Line.the-variants.{Comment, Write, Read, Bad}
@@ -20,9 +20,9 @@ unfoldable pub requestOf : Submission → Request
 requestOf s = record { handle = 0; volume = 1; region = 7; generation = 3; offset = positionOf (s .position); buffer = s .buffer; length = s .length; durable = s .durable; tag = s .tag }
 
 -- a call was made, and its reply is what is printed
-pub record Ran (call : Submit) (c : Counts) (l : Lent) (c′ : Counts) (l′ : Lent) (text : List ℕ) : Type 0 where
+pub record Ran (call : Call) (c : Counts) (l : Lent) (c′ : Counts) (l′ : Lent) (text : List ℕ) : Type 0 where
   pub reply : Reply
-  pub called : CallsTo (asCall call) c l reply c′ l′
+  pub called : CallsTo call c l reply c′ l′
   pub prints : text ≡ replyText reply
 
 -- nothing is changed, and this is printed

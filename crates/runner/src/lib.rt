@@ -8,11 +8,11 @@ ghost use Rattle.runner.specs.Runner.{requestOf, Ran, Answers};
 ghost use Rattle.step.specs.Figures.{figuresOpening};
 use completion::Reply;
 use host::CalledIn;
+use model::Call;
 use model::Counts;
 use model::Opening;
 use model::Request;
 use model::Row;
-use model::Submit;
 use regionmap::Position;
 use trace::Line;
 use trace::Submission;
@@ -64,7 +64,7 @@ pub fn request(s: Submission) -> Request
 
 // The call is made, and its reply printed to the front of `out`.
 fn run(
-    call: Submit,
+    call: Call,
     counts: Counts,
     rows: [Row; 64],
     store: &mut [u64],
@@ -116,7 +116,7 @@ pub fn answer(
             printed: texts::bad_text(number, out),
         },
         Line::Write(s) => run(
-            Submit::Write(request(s)),
+            Call::Write(request(s)),
             counts,
             rows,
             store,
@@ -127,7 +127,7 @@ pub fn answer(
             out,
         ),
         Line::Read(s) => run(
-            Submit::ReadPage(request(s)),
+            Call::ReadPage(request(s)),
             counts,
             rows,
             store,

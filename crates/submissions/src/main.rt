@@ -4,10 +4,10 @@
 use drawing::Drawn;
 use drawing::Tally;
 use host::CalledIn;
+use model::Call;
 use model::Counts;
 use model::Request;
 use model::Row;
-use model::Submit;
 use submitter::Opened;
 
 // How many openings there are, how many of them are printed, and how many requests each gets.
@@ -27,7 +27,7 @@ struct Going {
 
 // A call that is lent all of the pool, or a byte less, so that the reply is 13.
 fn lent_call(
-    call: Submit,
+    call: Call,
     all: bool,
     counts: Counts,
     rows: [Row; 64],
@@ -51,11 +51,11 @@ fn lent_call(
 }
 
 // A request as a read or a write.
-fn call_of(read: bool, q: Request) -> Submit {
+fn call_of(read: bool, q: Request) -> Call {
     if read {
-        return Submit::ReadPage(q);
+        return Call::ReadPage(q);
     }
-    Submit::Write(q)
+    Call::Write(q)
 }
 
 // One request is drawn and made, and its reply told; one in 32 that are not printed is lent another length of pool.

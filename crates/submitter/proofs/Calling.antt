@@ -6,13 +6,13 @@ use mathlib.Core.List.{List}
 use Prim.Native.Nat.{ℕ}
 use lib.ListN.{length, getD, set}
 use denote.Ref.{RefT}
-use Rattle.model.specs.declared.Submit.{Submit}
+use Rattle.model.specs.declared.Call.{Call}
 use Rattle.model.specs.declared.Counts.{Counts}
 use Rattle.model.specs.declared.Row.{Row}
 use Rattle.model.specs.State.{freed}
 use Rattle.optable.specs.Counted.{acceptedIf, releasedBy}
 use Rattle.called.specs.declared.Touched.{Touched}
-use Rattle.called.specs.Called.{asCall, lentOf, placeOf, CallsTo, TouchesTo}
+use Rattle.called.specs.Called.{lentOf, placeOf, CallsTo, TouchesTo}
 use Rattle.submitter.proofs.Slices.{Words}
 
 -- what `touch` gives back, and leaves in the five slices
@@ -24,20 +24,20 @@ pub record Left : Type 0 where
   pub owners : List ℕ
   pub pool : List ℕ
 
-module _ (o : Submit) (counts : RefT Counts) (rows : RefT (List Row)) (store free ready owners pool : Words) where
+module _ (o : Call) (counts : RefT Counts) (rows : RefT (List Row)) (store free ready owners pool : Words) where
   -- the counts, the place of the row to touch, and the row that is found there
   abbrev pub c : Counts
   c = counts .now
 
   abbrev pub place : ℕ
-  place = placeOf (asCall o) c (free .now)
+  place = placeOf o c (free .now)
 
   abbrev pub row : Row
   row = getD (rows .now) place (freed 0)
 
   -- what is said of what the callees leave
   abbrev pub Touches : Left → Type 0
-  Touches x = TouchesTo (asCall o) row c (length (rows .now)) (store .now) (free .now) (ready .now) (owners .now) (pool .now) (x .touched) (x .store) (x .free) (x .ready) (x .owners) (x .pool)
+  Touches x = TouchesTo o row c (length (rows .now)) (store .now) (free .now) (ready .now) (owners .now) (pool .now) (x .touched) (x .store) (x .free) (x .ready) (x .owners) (x .pool)
 
   pub record Did (x : Left) : Type 0 where
     pub touches : Touches x
@@ -54,8 +54,8 @@ module _ (o : Submit) (counts : RefT Counts) (rows : RefT (List Row)) (store fre
   Counted x c′ = c′ ≡ releasedBy (x .touched .frees) (acceptedIf (x .touched .accepts) c)
 
   pub calls-to : (x : Left) (rows′ : List Row) (c′ : Counts) → Did x → Claimed x rows′ → Counted x c′
-      → CallsTo (asCall o) c (lentOf (rows .now) (store .now) (free .now) (ready .now) (owners .now) (pool .now)) (x .touched .reply) c′ (lentOf rows′ (x .store) (x .free) (x .ready) (x .owners) (x .pool))
+      → CallsTo o c (lentOf (rows .now) (store .now) (free .now) (ready .now) (owners .now) (pool .now)) (x .touched .reply) c′ (lentOf rows′ (x .store) (x .free) (x .ready) (x .owners) (x .pool))
   calls-to x rows′ c′ did claimed counted =
-      subst (λ (d : Counts). CallsTo (asCall o) c (lentOf (rows .now) (store .now) (free .now) (ready .now) (owners .now) (pool .now)) (x .touched .reply) d (lentOf rows′ (x .store) (x .free) (x .ready) (x .owners) (x .pool))) (sym counted)
-      (subst (λ (ys : List Row). CallsTo (asCall o) c (lentOf (rows .now) (store .now) (free .now) (ready .now) (owners .now) (pool .now)) (x .touched .reply) (releasedBy (x .touched .frees) (acceptedIf (x .touched .accepts) c)) (lentOf ys (x .store) (x .free) (x .ready) (x .owners) (x .pool)))
+      subst (λ (d : Counts). CallsTo o c (lentOf (rows .now) (store .now) (free .now) (ready .now) (owners .now) (pool .now)) (x .touched .reply) d (lentOf rows′ (x .store) (x .free) (x .ready) (x .owners) (x .pool))) (sym counted)
+      (subst (λ (ys : List Row). CallsTo o c (lentOf (rows .now) (store .now) (free .now) (ready .now) (owners .now) (pool .now)) (x .touched .reply) (releasedBy (x .touched .frees) (acceptedIf (x .touched .accepts) c)) (lentOf ys (x .store) (x .free) (x .ready) (x .owners) (x .pool)))
       (sym (claimed .0)) (did .touches (rows .now) refl refl))

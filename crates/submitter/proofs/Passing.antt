@@ -27,7 +27,7 @@ use denote.Steps.{owned, heard, nothing}
 use denote.Triple.Spec.{tripleOf}
 use denote.Triple.Statement.{Contract}
 use denote.Triple.Clauses.{ensured, lasts}
-use Rattle.model.specs.declared.Submit.{Submit}
+use Rattle.model.specs.declared.Call.{Call}
 use Rattle.model.specs.declared.Counts.{Counts}
 use Rattle.model.specs.declared.Row.{Row}
 use Rattle.model.specs.State.{freed}
@@ -39,7 +39,7 @@ use Rattle.optable.proofs.Counted.{Plain, ended, counts-become, Becomes}
 use Rattle.optable.proofs.find as find
 use Rattle.optable.proofs.claim as claim
 use Rattle.called.specs.declared.Touched.{Touched}
-use Rattle.called.specs.Called.{asCall, placeOf}
+use Rattle.called.specs.Called.{placeOf}
 use Rattle.called.proofs.place as place
 use Rattle.queuecore.proofs.touch as touch
 use Rattle.submitter.proofs.Again.{pointer}
@@ -60,9 +60,9 @@ module _ {M : Type 1} (𝓤 : URA M) (H : Heap 𝓤) (A : Atoms 𝓤) (mem : Mem
   abbrev pub Claim : Contract 𝓤
   Claim = tripleOf 𝓤 H A claim.signature (claim.spec 𝓤 H A mem run)
 
-module _ {M : Type 1} (𝓤 : URA M) (H : Heap 𝓤) (A : Atoms 𝓤) (W : Given 𝓤 H A) (mem : Memory → SProp 𝓤) (run : Routine → Fun 𝓤) (o : Submit) (c : Counts) (x : Words) where
+module _ {M : Type 1} (𝓤 : URA M) (H : Heap 𝓤) (A : Atoms 𝓤) (W : Given 𝓤 H A) (mem : Memory → SProp 𝓤) (run : Routine → Fun 𝓤) (o : Call) (c : Counts) (x : Words) where
   -- `place`: what its triple binds outside, what it asks of a loan of the free stack, and what it gives
-  abbrev pub args-place : GName → Submit × (Counts × (Words × Unit {0}))
+  abbrev pub args-place : GName → Call × (Counts × (Words × Unit {0}))
   args-place δ = (o, (c, (under x δ, tt)))
 
   abbrev pub to-place : ℕ → GName → Place 𝓤 H A mem run .Ghost
@@ -75,10 +75,10 @@ module _ {M : Type 1} (𝓤 : URA M) (H : Heap 𝓤) (A : Atoms 𝓤) (W : Given
       -- [true; true; the call; the counts; the token; the loan]
       move ! (4 ∷ 0 ∷ []) $ join ! $ move ! (2 ∷ 3 ∷ 4 ∷ 1 ∷ []) $ group ! 4 $ move ! (1 ∷ 0 ∷ []) $ join ! $ frame ! $ nothing ! $ done !
 
-  pub place-comes : (ν : ℕ) (δ : GName) (v : Val) → ent 𝓤 (Place 𝓤 H A mem run .post (to-place ν δ) v) (H .⇛ (sep 𝓤 (sem 𝓤 H A (u64 .own (placeOf (asCall o) c (x .now)) (v ∷ []))) (A .lft (ν ∷ []) fullShare)))
+  pub place-comes : (ν : ℕ) (δ : GName) (v : Val) → ent 𝓤 (Place 𝓤 H A mem run .post (to-place ν δ) v) (H .⇛ (sep 𝓤 (sem 𝓤 H A (u64 .own (placeOf o c (x .now)) (v ∷ []))) (A .lft (ν ∷ []) fullShare)))
   place-comes ν δ v =
-      comes-lent 𝓤 H A W u64 (placeOf (asCall o) c (x .now)) (ensured 𝓤 H A place.ended (place.clauses 𝓤 H A mem run) (ν ∷ [], tt) (args-place δ) tt)
-      (λ r. exE 𝓤 _ (λ ws. snd∗ 𝓤 (sem 𝓤 H A (lasts place.ended (ν ∷ [], tt) (args-place δ) ws)) (fact 𝓤 (r ≡ placeOf (asCall o) c (x .now))))) (ν ∷ []) fullShare (v ∷ [])
+      comes-lent 𝓤 H A W u64 (placeOf o c (x .now)) (ensured 𝓤 H A place.ended (place.clauses 𝓤 H A mem run) (ν ∷ [], tt) (args-place δ) tt)
+      (λ r. exE 𝓤 _ (λ ws. snd∗ 𝓤 (sem 𝓤 H A (lasts place.ended (ν ∷ [], tt) (args-place δ) ws)) (fact 𝓤 (r ≡ placeOf o c (x .now))))) (ν ∷ []) fullShare (v ∷ [])
 
 module _ {M : Type 1} (𝓤 : URA M) (H : Heap 𝓤) (A : Atoms 𝓤) (W : Given 𝓤 H A) (mem : Memory → SProp 𝓤) (run : Routine → Fun 𝓤) (x : RefT (List Row)) (n : ℕ) where
   -- `find`, of a loan of the rows
@@ -162,7 +162,7 @@ module _ {M : Type 1} (𝓤 : URA M) (H : Heap 𝓤) (A : Atoms 𝓤) (W : Given
       at-once ! $ show ! (λ (c′ : Counts). mean 𝓤 H A (BecomeGave v c′)) (ws .0) $ suffices ! _ (guardI 𝓤 (Became (ws .0)) _ became) $ move ! (2 ∷ []) $ split ! $ split ! $ keep ! (2 ∷ 0 ∷ 3 ∷ []) $ done !)))
 
 -- the same of the five slices: the free stack apart, which is lent before, and the others with the call
-module _ {M : Type 1} (𝓤 : URA M) (κ₂ κ₃ κ₄ κ₅ κ₆ : Lft) (q₂ q₃ q₄ q₅ q₆ : Share) (o : Submit) (store free ready owners pool : Words) where
+module _ {M : Type 1} (𝓤 : URA M) (κ₂ κ₃ κ₄ κ₅ κ₆ : Lft) (q₂ q₃ q₄ q₅ q₆ : Share) (o : Call) (store free ready owners pool : Words) where
   abbrev pub Rest : Item 𝓤
   Rest =
       ‵ (flft κ₂ q₂) ⊛ ‵ (flft κ₄ q₄) ⊛ ‵ (flft κ₅ q₅) ⊛ ‵ (flft κ₆ q₆) ⊛ ‵ (Call-row .own o (call-vals o)) ⊛ ‵ (MutSlice (named 2) κ₂ u64 .own store (count store ∷ []))
@@ -175,7 +175,7 @@ module _ {M : Type 1} (𝓤 : URA M) (κ₂ κ₃ κ₄ κ₅ κ₆ : Lft) (q₂
   PartsLeft x = Tokens ⊛ ‵ (finally u64 (store .name) (x .store)) ⊛ ‵ (finally u64 (free .name) (x .free)) ⊛ ‵ (finally u64 (ready .name) (x .ready)) ⊛ ‵ (finally u64 (owners .name) (x .owners)) ⊛ ‵ (finally u8 (pool .name) (x .pool))
 
 module _ {M : Type 1} (𝓤 : URA M) (H : Heap 𝓤) (A : Atoms 𝓤) (W : Given 𝓤 H A) (mem : Memory → SProp 𝓤) (run : Routine → Fun 𝓤) (κ₂ κ₃ κ₄ κ₅ κ₆ : Lft) (q₂ q₃ q₄ q₅ q₆ : Share)
-    (o : Submit) (counts : RefT Counts) (rows : RefT (List Row)) (store free ready owners pool : Words) where
+    (o : Call) (counts : RefT Counts) (rows : RefT (List Row)) (store free ready owners pool : Words) where
   -- `touch`, of the row found, w, and the five slices
   abbrev pub found : Row
   found = row o counts rows store free ready owners pool
@@ -183,7 +183,7 @@ module _ {M : Type 1} (𝓤 : URA M) (H : Heap 𝓤) (A : Atoms 𝓤) (W : Given
   abbrev pub κs-touch : Lft × (Lft × (Lft × (Lft × (Lft × Unit {0}))))
   κs-touch = (κ₂, (κ₃, (κ₄, (κ₅, (κ₆, tt)))))
 
-  abbrev pub args-touch : Submit × (Row × (Counts × (ℕ × (Words × (Words × (Words × (Words × (Words × Unit {0}))))))))
+  abbrev pub args-touch : Call × (Row × (Counts × (ℕ × (Words × (Words × (Words × (Words × (Words × Unit {0}))))))))
   args-touch = (o, (found, (counts .now, (length (rows .now), (store, (free, (ready, (owners, (pool, tt)))))))))
 
   abbrev pub Last-touch : Type 0

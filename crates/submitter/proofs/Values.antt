@@ -18,9 +18,9 @@ use denote.Enum.Laws as Enum
 use Rattle.model.specs.declared.Opening.{Opening}
 use Rattle.model.proofs.Opening as Asked
 use Rattle.model.proofs.Opening.Laws as AskedLaws
-use Rattle.model.specs.declared.Submit.{Submit}
-use Rattle.model.proofs.Submit as Called
-use Rattle.model.proofs.Submit.Laws as CalledLaws
+use Rattle.model.specs.declared.Call.{Call}
+use Rattle.model.proofs.Call as Called
+use Rattle.model.proofs.Call.Laws as CalledLaws
 use Rattle.model.specs.declared.Counts.{Counts}
 use Rattle.model.proofs.Counts as Counted
 use Rattle.model.proofs.Counts.Laws as CountedLaws
@@ -74,10 +74,10 @@ Call-row = Called.the-row
 abbrev pub call-ty : Ty
 call-ty = CalledLaws.mir
 
-abbrev pub call-val : Submit → Val
+abbrev pub call-val : Call → Val
 call-val = Enum.val Called.the-type CalledLaws.the-laws
 
-abbrev pub call-vals : Submit → List Val
+abbrev pub call-vals : Call → List Val
 call-vals = Enum.vals Called.the-type CalledLaws.the-laws
 
 pub call-tells : Tells Call-row (Is Call-row) call-vals
@@ -132,7 +132,7 @@ pub reply-makes : {M : Type 1} (𝓤 : URA M) (H : Heap 𝓤) (A : Atoms 𝓤) �
 reply-makes 𝓤 H A = Enum.makes Answered.the-type AnsweredLaws.the-plain 𝓤 H A
 
 module _ {M : Type 1} (𝓤 : URA M) (H : Heap 𝓤) (A : Atoms 𝓤) (W : Given 𝓤 H A) where
-  pub call-typed : (c : Submit) (v : Val) → Is Call-row c (v ∷ []) → T (hasTy call-ty v) × WT v
+  pub call-typed : (c : Call) (v : Val) → Is Call-row c (v ∷ []) → T (hasTy call-ty v) × WT v
   call-typed c v g = Enum.lawful Called.the-type CalledLaws.the-laws 𝓤 H A W tt .typed c _ g .0
 
   pub reply-typed : (r : Reply) (v : Val) → Is Reply-row r (v ∷ []) → T (hasTy reply-ty v) × WT v

@@ -2,19 +2,19 @@
 // decided in queuecore, on values and words.
 ghost use mathlib.Core.Path.{_≡_};
 ghost use lib.ListN.{length};
-ghost use Rattle.called.specs.Called.{asCall, lentOf, CallsTo, LooksTo};
+ghost use Rattle.called.specs.Called.{lentOf, CallsTo, LooksTo};
 ghost use Rattle.store.specs.Prepared.{lengthsWith};
 ghost use Rattle.submitter.specs.Open.{openedWith, OpensTo};
 ghost use Rattle.submitter.specs.Look.{fitOf, answerOf};
 use completion::Refusal;
 use completion::Reply;
 use lookup::Looked;
+use model::Call;
 use model::Counts;
 use model::Lengths;
 use model::Lookup;
 use model::Opening;
 use model::Row;
-use model::Submit;
 
 // The reply to an opening: the table's counts, or 13.
 pub enum Opened {
@@ -59,7 +59,7 @@ pub fn open(
 // One call (Submitter::write, read_page, and the calls of queue_core.rs): the row that it touches is found, what the call does to it is decided, and it is
 // claimed, with the counts, as decided; a call that is turned away claims the row as it was.
 pub fn call(
-    call: Submit,
+    call: Call,
     counts: &mut Counts,
     rows: &mut [Row],
     store: &mut [u64],
@@ -68,7 +68,7 @@ pub fn call(
     owners: &mut [u64],
     pool: &mut [u8],
 ) -> Reply
-    ensures { λ r. ⌜ CallsTo (asCall call) (now (counts .entry)) (lentOf (now (rows .entry)) (now (store .entry)) (now (free .entry)) (now (ready .entry)) (now (owners .entry)) (now (pool .entry))) r (now (counts .exit)) (lentOf (now (rows .exit)) (now (store .exit)) (now (free .exit)) (now (ready .exit)) (now (owners .exit)) (now (pool .exit))) ⌝ }
+    ensures { λ r. ⌜ CallsTo call (now (counts .entry)) (lentOf (now (rows .entry)) (now (store .entry)) (now (free .entry)) (now (ready .entry)) (now (owners .entry)) (now (pool .entry))) r (now (counts .exit)) (lentOf (now (rows .exit)) (now (store .exit)) (now (free .exit)) (now (ready .exit)) (now (owners .exit)) (now (pool .exit))) ⌝ }
 {
     let c = *counts;
     let at = called::place(call, c, free) as usize;

@@ -1,7 +1,16 @@
--- `called::place` meets its contract: each submission touches the row on top of the free stack.
-use mathlib.Core.Path.{sym, ap, _∙_}
-use Rattle.model.specs.declared.Submit.{Submit}
-use Rattle.called.specs.Called.{asCall, placeOf}
+-- `called::place` meets its contract, case by case.
+use mathlib.Core.Path.{_≡_, refl, sym, ap, _∙_}
+use mathlib.Core.List.{List, [], _∷_}
+use mathlib.Core.Logic.{inl, inr}
+use Prim.Native.Nat.{ℕ, _≤_}
+use native.Mathlib.Omega.{arith}
+use types.Run.{OneOf}
+use denote.Enum.Declared.{tagOf}
+use Rattle.model.specs.declared.Call.{Call}
+use Rattle.model.specs.declared.Call.the-variants.{Write, ReadPage, Answer, Flushed, Take, SetGate, SetReadOnly, SetForced, ReportPoison}
+use Rattle.model.specs.declared.Counts.{Counts}
+use Rattle.model.proofs.Call as Declared
+use Rattle.called.specs.Called.{placeOf}
 use borrow.Author.Needs.{needs}
 use Rattle.called.proofs.place.Statement.{statement}
 use Rattle.called.proofs.place.Tie as tie
@@ -18,18 +27,85 @@ enum-told-2 c = search needs
 top-requires-2 : tie.Need-top-requires-2
 top-requires-2 c κs = search needs
 
+enum-known-call : tie.Need-enum-known-call
+enum-known-call c = search needs
+
+row-of-requires : tie.Need-row-of-requires
+row-of-requires c κs = search needs
+
+enum-known-call-2 : tie.Need-enum-known-call-2
+enum-known-call-2 c = search needs
+
+row-of-requires-2 : tie.Need-row-of-requires-2
+row-of-requires-2 c κs = search needs
+
+-- the place of the case that the match found is that of the call
+as-told : (c : Counts) (free : List ℕ) {call found : Call} → call ≡ found → placeOf found c free ≡ placeOf call c free
+as-told c free e = sym (ap (λ (x : Call). placeOf x c free) e)
+
+-- none of the calls behind the first four touches a row
+behind : {n : ℕ} → OneOf (4 ∷ 5 ∷ 6 ∷ 7 ∷ 8 ∷ []) n → 4 ≤ n
+behind (inl e) = omega (arith, e)
+behind (inr (inl e)) = omega (arith, e)
+behind (inr (inr (inl e))) = omega (arith, e)
+behind (inr (inr (inr (inl e)))) = omega (arith, e)
+behind (inr (inr (inr (inr e)))) = omega (arith, e)
+
+untouched : (call : Call) (c : Counts) (free : List ℕ) → OneOf (4 ∷ 5 ∷ 6 ∷ 7 ∷ 8 ∷ []) (tagOf Declared.the-type call) → 0 ≡ placeOf call c free
+unfolding placeOf
+untouched (Write q) c free one = omega (arith, behind one)
+untouched (ReadPage q) c free one = omega (arith, behind one)
+untouched (Answer t answer back flushes) c free one = omega (arith, behind one)
+untouched (Flushed t result) c free one = omega (arith, behind one)
+untouched Take c free one = refl
+untouched (SetGate h x) c free one = refl
+untouched (SetReadOnly h x) c free one = refl
+untouched (SetForced h x) c free one = refl
+untouched (ReportPoison cause) c free one = refl
+
 returns : tie.Need-returns
-unfolding placeOf asCall
+unfolding placeOf
 returns c =
     let a = c .before .before .before .before .args in
-    c .top .ensures ∙ sym (ap (λ (x : Submit). placeOf (asCall x) (a .counts) (a .free .now)) (c .before .enum-told .given .1))
+    c .top .ensures ∙ as-told (a .counts) (a .free .now) (c .before .enum-told .given .1)
 
 returns-2 : tie.Need-returns-2
-unfolding placeOf asCall
+unfolding placeOf
 returns-2 c =
     let a = c .before .before .before .before .args in
-    c .top2 .ensures ∙ sym (ap (λ (x : Submit). placeOf (asCall x) (a .counts) (a .free .now)) (c .before .enum-told2 .given .1))
+    c .top2 .ensures ∙ as-told (a .counts) (a .free .now) (c .before .enum-told2 .given .1)
+
+returns-3 : tie.Need-returns-3
+unfolding placeOf
+returns-3 c =
+    let a = c .before .before .before .before .before .args in
+    c .row-of .ensures ∙ as-told (a .counts) (a .free .now) (c .before .before .call .given .1)
+
+returns-4 : tie.Need-returns-4
+unfolding placeOf
+returns-4 c =
+    let a = c .before .before .before .before .before .args in
+    c .row-of2 .ensures ∙ as-told (a .counts) (a .free .now) (c .before .before .call2 .given .1)
+
+returns-5 : tie.Need-returns-5
+returns-5 c =
+    let a = c .before .before .args in
+    untouched (a .call) (a .counts) (a .free .now) (c .match .keys5)
 
 pub place-spec : {M : Type 1} → statement M
 place-spec =
-    tie.close (tie.spec enum-told top-requires enum-told-2 top-requires-2 returns returns-2)
+    tie.close
+    (tie.spec
+    enum-told
+    top-requires
+    enum-told-2
+    top-requires-2
+    enum-known-call
+    row-of-requires
+    enum-known-call-2
+    row-of-requires-2
+    returns
+    returns-2
+    returns-3
+    returns-4
+    returns-5)

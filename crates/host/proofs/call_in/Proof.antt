@@ -42,10 +42,10 @@ use denote.Triple.Walked.{says, Stays, gave-slice, stay-dropped, walkOf, goes-ga
 use Rattle.completion.specs.declared.Reply.{Reply}
 use Rattle.completion.proofs.Reply as Answered
 use Rattle.completion.proofs.Reply.Laws as AnsweredLaws
-use Rattle.model.specs.declared.Submit.{Submit}
+use Rattle.model.specs.declared.Call.{Call}
 use Rattle.model.specs.declared.Counts.{Counts}
 use Rattle.model.specs.declared.Row.{Row}
-use Rattle.called.specs.Called.{asCall, lentOf, CallsTo}
+use Rattle.called.specs.Called.{lentOf, CallsTo}
 use Rattle.optable.proofs.Tally.{N}
 use Rattle.optable.proofs.Tally as Tally
 use Rattle.submitter.proofs.Slices.{Words, count}
@@ -64,7 +64,7 @@ use Rattle.host.proofs.call_in.Statement as stated
 use Rattle.host.proofs.call_in.Code as code
 
 abbrev Arg : Type 0
-Arg = Submit × (Counts × (List Row × (Words × (Words × (Words × (Words × (Words × Unit {0})))))))
+Arg = Call × (Counts × (List Row × (Words × (Words × (Words × (Words × (Words × Unit {0})))))))
 
 -- what is had of each at exit: what is passed on is given up
 abbrev stayed : Stays (self.ended .signature .params) (self.ended .kept)
@@ -113,7 +113,7 @@ record Rooms (s f r w b : Words) : Type 0 where
   owners : Room u64 (length (w .now))
   pool : Room u8 (length (b .now))
 
-module _ {M : Type 1} (𝓤 : URA M) (H : Heap 𝓤) (A : Atoms 𝓤) (W : Given 𝓤 H A) (mem : Memory → SProp 𝓤) (run : Routine → Fun 𝓤) (κ₀ κ₁ κ₂ κ₃ κ₄ : Lft) (q₀ q₁ q₂ q₃ q₄ : Share) (o : Submit) (counts : Counts) (rows : List Row) (store free ready owners pool : Words) where
+module _ {M : Type 1} (𝓤 : URA M) (H : Heap 𝓤) (A : Atoms 𝓤) (W : Given 𝓤 H A) (mem : Memory → SProp 𝓤) (run : Routine → Fun 𝓤) (κ₀ κ₁ κ₂ κ₃ κ₄ : Lft) (q₀ q₁ q₂ q₃ q₄ : Share) (o : Call) (counts : Counts) (rows : List Row) (store free ready owners pool : Words) where
   abbrev a : Arg
   a = (o, (counts, (rows, (store, (free, (ready, (owners, (pool, tt))))))))
 
@@ -126,7 +126,7 @@ module _ {M : Type 1} (𝓤 : URA M) (H : Heap 𝓤) (A : Atoms 𝓤) (W : Given
   -- what is said of what `call` leaves
   abbrev Calls-to : Left → Type 0
   Calls-to x =
-      CallsTo (asCall o) counts (lentOf rows (store .now) (free .now) (ready .now) (owners .now) (pool .now)) (x .back .reply) (x .back .counts) (lentOf (x .back .rows) (x .store) (x .free) (x .ready) (x .owners) (x .pool))
+      CallsTo o counts (lentOf rows (store .now) (free .now) (ready .now) (owners .now) (pool .now)) (x .back .reply) (x .back .counts) (lentOf (x .back .rows) (x .store) (x .free) (x .ready) (x .owners) (x .pool))
 
   record Did (x : Left) : Type 0 where
     calls : Calls-to x
@@ -174,7 +174,7 @@ module _ {M : Type 1} (𝓤 : URA M) (H : Heap 𝓤) (A : Atoms 𝓤) (W : Given
     abbrev κs-call : Lft × (Lft × (Lft × (Lft × (Lft × (Lft × (Lft × Unit {0}))))))
     κs-call = (ν ∷ [], (μ ∷ [], (κ₀, (κ₁, (κ₂, (κ₃, (κ₄, tt)))))))
 
-    abbrev args-call : Submit × (RefT Counts × (RefT (List Row) × (Words × (Words × (Words × (Words × (Words × Unit {0})))))))
+    abbrev args-call : Call × (RefT Counts × (RefT (List Row) × (Words × (Words × (Words × (Words × (Words × Unit {0})))))))
     args-call = (o, (ref-of counts b δ, (slice-of rows d η, (store, (free, (ready, (owners, (pool, tt))))))))
 
     abbrev Last-call : Type 0

@@ -39,7 +39,7 @@ use denote.Triple.Statement.{Triple}
 use denote.Triple.Call.{calls-at}
 use denote.Triple.Table.{entered, cited}
 use denote.Triple.Walked.{says, Stays, gave-ref, gave-slice, stay-dropped, walkOf, goes-gave-ref, goes-gave-slice, goes-dropped, Walks, ends-at, walked, walk-meets}
-use Rattle.model.specs.declared.Submit.{Submit}
+use Rattle.model.specs.declared.Call.{Call}
 use Rattle.model.specs.declared.Counts.{Counts}
 use Rattle.model.specs.declared.Row.{Row}
 use Rattle.model.specs.State.{freed}
@@ -61,7 +61,7 @@ use Rattle.optable.proofs.accept.Met as accept-thm
 use Rattle.optable.proofs.release.Symbol as release-def
 use Rattle.optable.proofs.release.Symbol.{name as #optable·release}
 use Rattle.optable.proofs.release.Met as release-thm
-use Rattle.called.specs.Called.{asCall, placeOf}
+use Rattle.called.specs.Called.{placeOf}
 use Rattle.called.proofs.place.Symbol as place-def
 use Rattle.called.proofs.place.Symbol.{name as #called·place}
 use Rattle.called.proofs.place.Met as place-thm
@@ -79,7 +79,7 @@ use Rattle.submitter.proofs.call.Statement as stated
 use Rattle.submitter.proofs.call.Code as code
 
 abbrev Arg : Type 0
-Arg = Submit × (RefT Counts × (RefT (List Row) × (Words × (Words × (Words × (Words × (Words × Unit {0})))))))
+Arg = Call × (RefT Counts × (RefT (List Row) × (Words × (Words × (Words × (Words × (Words × Unit {0})))))))
 
 -- what is had of each at exit: what is passed on is given up
 abbrev stayed : Stays (self.ended .signature .params) (self.ended .kept)
@@ -107,7 +107,7 @@ record Rooms (x : RefT (List Row)) (s f r w b : Words) : Type 0 where
   pool : Room u8 (length (b .now))
 
 module _ {M : Type 1} (𝓤 : URA M) (H : Heap 𝓤) (A : Atoms 𝓤) (W : Given 𝓤 H A) (mem : Memory → SProp 𝓤) (run : Routine → Fun 𝓤) (κ₀ κ₁ κ₂ κ₃ κ₄ κ₅ κ₆ : Lft) (q₀ q₁ q₂ q₃ q₄ q₅ q₆ : Share)
-    (o : Submit) (counts : RefT Counts) (rows : RefT (List Row)) (store free ready owners pool : Words) where
+    (o : Call) (counts : RefT Counts) (rows : RefT (List Row)) (store free ready owners pool : Words) where
   abbrev a : Arg
   a = (o, (counts, (rows, (store, (free, (ready, (owners, (pool, tt))))))))
 
@@ -122,7 +122,7 @@ module _ {M : Type 1} (𝓤 : URA M) (H : Heap 𝓤) (A : Atoms 𝓤) (W : Given
   c = counts .now
 
   abbrev place : ℕ
-  place = placeOf (asCall o) c (free .now)
+  place = placeOf o c (free .now)
 
   abbrev row : Row
   row = getD (rows .now) place (freed 0)

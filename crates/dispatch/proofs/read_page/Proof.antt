@@ -1,4 +1,4 @@
--- `queuecore::read_page` meets its contract: the verdict, and what `issue` leaves of it, is one step (Touching).
+-- `dispatch::read_page` meets its contract: the verdict, and what `issue` leaves of it, is one step (Touching).
 use mathlib.Core.Path.{refl}
 use Rattle.model.specs.declared.Call.the-variants.{ReadPage}
 use Rattle.model.specs.declared.Kind.the-variants.{Read}
@@ -6,10 +6,10 @@ use Rattle.step.specs.Questions.{regionAt, firstNo, readQuestions}
 use Rattle.step.specs.Step.{startOf, endOf, readVerdict, called}
 use Rattle.step.proofs.Answers.{read-passed}
 use Rattle.called.specs.Called.{placeOf}
-use Rattle.queuecore.proofs.Touching.{went, submits}
+use Rattle.dispatch.proofs.Touching.{went, submits}
 use borrow.Author.Needs.{needs}
-use Rattle.queuecore.proofs.read_page.Statement.{statement}
-use Rattle.queuecore.proofs.read_page.Tie as tie
+use Rattle.dispatch.proofs.read_page.Statement.{statement}
+use Rattle.dispatch.proofs.read_page.Tie as tie
 
 read-page-requires : tie.Need-read-page-requires
 read-page-requires c κs = search needs

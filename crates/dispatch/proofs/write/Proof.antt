@@ -1,4 +1,4 @@
--- `queuecore::write` meets its contract: the verdict, and what `issue` leaves of it, is one step (Touching).
+-- `dispatch::write` meets its contract: the verdict, and what `issue` leaves of it, is one step (Touching).
 use mathlib.Core.Path.{refl}
 use Rattle.model.specs.declared.Call.the-variants.{Write}
 use Rattle.model.specs.declared.Kind.the-variants.{Page}
@@ -6,10 +6,10 @@ use Rattle.step.specs.Questions.{regionAt, firstNo, writeQuestions}
 use Rattle.step.specs.Step.{startOf, endOf, writeVerdict, called}
 use Rattle.step.proofs.Answers.{write-passed}
 use Rattle.called.specs.Called.{placeOf}
-use Rattle.queuecore.proofs.Touching.{went, submits}
+use Rattle.dispatch.proofs.Touching.{went, submits}
 use borrow.Author.Needs.{needs}
-use Rattle.queuecore.proofs.write.Statement.{statement}
-use Rattle.queuecore.proofs.write.Tie as tie
+use Rattle.dispatch.proofs.write.Statement.{statement}
+use Rattle.dispatch.proofs.write.Tie as tie
 
 write-requires : tie.Need-write-requires
 write-requires c κs = search needs
