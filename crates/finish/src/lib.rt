@@ -93,7 +93,7 @@ fn finish_piece(
             },
         };
     }
-    settle::last_piece(o, g, first, row, kind, s, answer, back, flushes)
+    lastpiece::last_piece(o, g, first, row, kind, s, answer, back, flushes)
 }
 
 // An answer to the operation in a row (Table::finish); the piece's length is given.
@@ -132,7 +132,7 @@ fn flush_outcome(o: Opening, t: WriteTicket, result: Flushed) -> Outcome
     ensures { λ r. ⌜ r ≡ flushOutcome o t result ⌝ }
 {
     match result {
-        Flushed::Need(need) => Outcome::Receipt(t, settle::receipt_for(o, t, need)),
+        Flushed::Need(need) => Outcome::Receipt(t, receipt::receipt_for(o, t, need)),
         Flushed::Unknown(cause) => {
             let start = t.start;
             let end = t.end;
