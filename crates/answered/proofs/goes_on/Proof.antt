@@ -1,13 +1,13 @@
--- `finish::goes_on` meets its contract: bytes are left where the piece is shorter than what is left; an answer that is no count is not whole.
+-- `answered::goes_on` meets its contract: bytes are left where the piece is shorter than what is left; an answer that is no count is not whole.
 use mathlib.Core.Path.{_≡_, refl}
 use mathlib.Core.Bool.{false}
 use Rattle.platform.specs.declared.Answer.{Answer}
 use Rattle.step.specs.Rules.{isWhole, goesOn}
 use Rattle.settle.proofs.Settling.{no-count}
-use Rattle.finish.proofs.Finishing.{left-behind}
+use Rattle.answered.proofs.Finishing.{left-behind}
 use borrow.Author.Needs.{needs}
-use Rattle.finish.proofs.goes_on.Statement.{statement}
-use Rattle.finish.proofs.goes_on.Tie as tie
+use Rattle.answered.proofs.goes_on.Statement.{statement}
+use Rattle.answered.proofs.goes_on.Tie as tie
 
 enum-known-answer : tie.Need-enum-known-answer
 enum-known-answer c = search needs

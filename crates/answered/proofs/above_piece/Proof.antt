@@ -1,12 +1,12 @@
--- `finish::above_piece` meets its contract: each arm knows whether the answer is a count.
+-- `answered::above_piece` meets its contract: each arm knows whether the answer is a count.
 use mathlib.Core.Path.{_≡_, refl}
 use mathlib.Core.Bool.{false}
 use Rattle.platform.specs.declared.Answer.{Answer}
 use Rattle.step.specs.Rules.{abovePiece}
 use Rattle.settle.proofs.Settling.{no-count}
 use borrow.Author.Needs.{needs}
-use Rattle.finish.proofs.above_piece.Statement.{statement}
-use Rattle.finish.proofs.above_piece.Tie as tie
+use Rattle.answered.proofs.above_piece.Statement.{statement}
+use Rattle.answered.proofs.above_piece.Tie as tie
 
 enum-known-answer : tie.Need-enum-known-answer
 enum-known-answer c = search needs

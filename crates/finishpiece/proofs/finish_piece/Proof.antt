@@ -1,14 +1,14 @@
--- `finish::finish_piece` meets its contract: each way out knows what was asked, and there the definition computes.
+-- `finishpiece::finish_piece` meets its contract: each way out knows what was asked, and there the definition computes.
 use mathlib.Core.Path.{_≡_, sym, _∙_}
 use mathlib.Core.Bool.{true, false}
 use Rattle.layout.specs.Pick.{pick}
 use Rattle.step.specs.Rules.{abovePiece, firstRefused, goesOn, splitAfter, pieceAnswered}
 use Rattle.settle.specs.Finished.{turnedBy, fateBy}
 use Rattle.settle.proofs.Settling.{no-wrap}
-use Rattle.finish.proofs.Finishing.{count-fits}
+use Rattle.answered.proofs.Finishing.{count-fits}
 use borrow.Author.Needs.{needs}
-use Rattle.finish.proofs.finish_piece.Statement.{statement}
-use Rattle.finish.proofs.finish_piece.Tie as tie
+use Rattle.finishpiece.proofs.finish_piece.Statement.{statement}
+use Rattle.finishpiece.proofs.finish_piece.Tie as tie
 
 above-piece-requires : tie.Need-above-piece-requires
 above-piece-requires c κs = search needs

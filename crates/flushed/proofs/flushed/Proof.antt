@@ -1,9 +1,9 @@
--- `finish::flushed` meets its contract: each arm knows whether the row awaits a flush.
+-- `flushed::flushed` meets its contract: each arm knows whether the row awaits a flush.
 use Rattle.step.specs.Rules.{rules}
-use Rattle.finish.proofs.Finishing.{awaits-flush, no-flush}
+use Rattle.answered.proofs.Finishing.{awaits-flush, no-flush}
 use borrow.Author.Needs.{needs}
-use Rattle.finish.proofs.flushed.Statement.{statement}
-use Rattle.finish.proofs.flushed.Tie as tie
+use Rattle.flushed.proofs.flushed.Statement.{statement}
+use Rattle.flushed.proofs.flushed.Tie as tie
 
 enum-known-awaits : tie.Need-enum-known-awaits
 enum-known-awaits c = search needs

@@ -1,8 +1,8 @@
--- `finish::flush_outcome` meets its contract: each arm knows which result it is, and there the definition computes.
+-- `flushed::flush_outcome` meets its contract: each arm knows which result it is, and there the definition computes.
 use Rattle.step.specs.Rules.{flushOutcome}
 use borrow.Author.Needs.{needs}
-use Rattle.finish.proofs.flush_outcome.Statement.{statement}
-use Rattle.finish.proofs.flush_outcome.Tie as tie
+use Rattle.flushed.proofs.flush_outcome.Statement.{statement}
+use Rattle.flushed.proofs.flush_outcome.Tie as tie
 
 enum-known-result : tie.Need-enum-known-result
 enum-known-result c = search needs

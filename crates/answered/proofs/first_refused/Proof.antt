@@ -1,10 +1,10 @@
--- `finish::first_refused` meets its contract: each arm knows whether the answer is a refusal.
+-- `answered::first_refused` meets its contract: each arm knows whether the answer is a refusal.
 use mathlib.Core.Bool.{and-true}
 use Rattle.step.specs.Rules.{isRefusal, firstRefused}
-use Rattle.finish.proofs.Finishing.{no-refusal}
+use Rattle.answered.proofs.Finishing.{no-refusal}
 use borrow.Author.Needs.{needs}
-use Rattle.finish.proofs.first_refused.Statement.{statement}
-use Rattle.finish.proofs.first_refused.Tie as tie
+use Rattle.answered.proofs.first_refused.Statement.{statement}
+use Rattle.answered.proofs.first_refused.Tie as tie
 
 enum-told : tie.Need-enum-told
 enum-told c = search needs
