@@ -1,9 +1,9 @@
--- `marks::report_poison` meets its contract: the cause's error is a u32.
+-- `poison::report_poison` meets its contract: the cause's error is a u32.
 use Rattle.marks.proofs.Raw.{cause-fits}
 use Rattle.marks.proofs.Poisoning.{reports}
 use borrow.Author.Needs.{needs}
-use Rattle.marks.proofs.report_poison.Statement.{statement}
-use Rattle.marks.proofs.report_poison.Tie as tie
+use Rattle.poison.proofs.report_poison.Statement.{statement}
+use Rattle.poison.proofs.report_poison.Tie as tie
 
 poison-requires : tie.Need-poison-requires
 poison-requires c κs = search needs

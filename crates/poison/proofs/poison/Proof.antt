@@ -1,11 +1,11 @@
--- `marks::poison` meets its contract: where the store is not poisoned yet the four words are stored, and otherwise nothing is.
+-- `poison::poison` meets its contract: where the store is not poisoned yet the four words are stored, and otherwise nothing is.
 use mathlib.Core.Path.{sym, _∙_}
 use native.Mathlib.Omega.{arith}
 use lib.ListN.{getD, length-set}
 use Rattle.marks.proofs.Words.{flag-on, flag-off, causeAt, poisoned-short, poisoned-first, poisoned-new}
 use borrow.Author.Needs.{needs}
-use Rattle.marks.proofs.poison.Statement.{statement}
-use Rattle.marks.proofs.poison.Tie as tie
+use Rattle.poison.proofs.poison.Statement.{statement}
+use Rattle.poison.proofs.poison.Tie as tie
 
 returns : tie.Need-returns
 returns c =

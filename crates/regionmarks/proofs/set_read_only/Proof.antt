@@ -1,4 +1,4 @@
--- `marks::set_read_only` meets its contract: mark 1 is read-only.
+-- `regionmarks::set_read_only` meets its contract: mark 1 is read-only.
 use mathlib.Core.Path.{refl}
 use Prim.Native.Nat.{ℕ}
 use lib.Dec.{lit<}
@@ -6,12 +6,12 @@ use mathlib.Core.Path.{subst}
 use Rattle.model.specs.declared.Call.the-variants.{SetReadOnly}
 use Rattle.model.specs.Memory.{word01}
 use Rattle.step.specs.Step.{called, withReadOnly}
 use Rattle.marks.specs.Marks.{SetsMark}
 use Rattle.marks.proofs.Marks.{read-only-set}
 use Rattle.marks.proofs.Setting.{sets}
 use borrow.Author.Needs.{needs}
-use Rattle.marks.proofs.set_read_only.Statement.{statement}
-use Rattle.marks.proofs.set_read_only.Tie as tie
+use Rattle.regionmarks.proofs.set_read_only.Statement.{statement}
+use Rattle.regionmarks.proofs.set_read_only.Tie as tie
 
 flag-word-requires : tie.Need-flag-word-requires
 flag-word-requires c κs = search needs

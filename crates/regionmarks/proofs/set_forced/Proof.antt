@@ -1,4 +1,4 @@
--- `marks::set_forced` meets its contract: mark 2 is forced.
+-- `regionmarks::set_forced` meets its contract: mark 2 is forced.
 use mathlib.Core.Path.{refl}
 use Prim.Native.Nat.{ℕ}
 use lib.Dec.{lit<}
@@ -6,12 +6,12 @@ use mathlib.Core.Path.{subst}
 use Rattle.model.specs.declared.Call.the-variants.{SetForced}
 use Rattle.model.specs.Memory.{word01}
 use Rattle.step.specs.Step.{called, withForced}
 use Rattle.marks.specs.Marks.{SetsMark}
 use Rattle.marks.proofs.Marks.{forced-set}
 use Rattle.marks.proofs.Setting.{sets}
 use borrow.Author.Needs.{needs}
-use Rattle.marks.proofs.set_forced.Statement.{statement}
-use Rattle.marks.proofs.set_forced.Tie as tie
+use Rattle.regionmarks.proofs.set_forced.Statement.{statement}
+use Rattle.regionmarks.proofs.set_forced.Tie as tie
 
 flag-word-requires : tie.Need-flag-word-requires
 flag-word-requires c κs = search needs

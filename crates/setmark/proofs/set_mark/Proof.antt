@@ -1,10 +1,10 @@
--- `marks::set_mark` meets its contract: by the tests.
+-- `setmark::set_mark` meets its contract: by the tests.
 use mathlib.Core.Path.{refl}
 use native.Mathlib.Omega.{arith}
 use Rattle.model.specs.Memory.{settingsIn}
 use borrow.Author.Needs.{needs}
-use Rattle.marks.proofs.set_mark.Statement.{statement}
-use Rattle.marks.proofs.set_mark.Tie as tie
+use Rattle.setmark.proofs.set_mark.Statement.{statement}
+use Rattle.setmark.proofs.set_mark.Tie as tie
 
 away-requires : tie.Need-away-requires
 away-requires c κs = search needs

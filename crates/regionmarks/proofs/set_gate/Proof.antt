@@ -1,16 +1,16 @@
--- `marks::set_gate` meets its contract: mark 0 is the gate.
+-- `regionmarks::set_gate` meets its contract: mark 0 is the gate.
 use mathlib.Core.Path.{refl}
 use Prim.Native.Nat.{ℕ}
 use lib.Dec.{lit<}
 use mathlib.Core.Path.{subst}
 use Rattle.model.specs.declared.Call.the-variants.{SetGate}
 use Rattle.step.specs.Step.{called, withGate}
 use Rattle.marks.specs.Marks.{gateWord, SetsMark}
 use Rattle.marks.proofs.Marks.{gate-set}
 use Rattle.marks.proofs.Setting.{sets}
 use borrow.Author.Needs.{needs}
-use Rattle.marks.proofs.set_gate.Statement.{statement}
-use Rattle.marks.proofs.set_gate.Tie as tie
+use Rattle.regionmarks.proofs.set_gate.Statement.{statement}
+use Rattle.regionmarks.proofs.set_gate.Tie as tie
 
 gate-word-requires : tie.Need-gate-word-requires
 gate-word-requires c κs = search needs
