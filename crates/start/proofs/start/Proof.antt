@@ -1,11 +1,11 @@
--- `optable::start` meets its contract: each field is the definition's.
+-- `start::start` meets its contract: each field is the definition's.
 use mathlib.Core.Path.{ap}
 use mathlib.Core.Bool.{Bool}
 use Rattle.model.specs.declared.Awaits.the-variants.{Piece}
 use Rattle.step.specs.Step.{claimedBy, begun}
 use borrow.Author.Needs.{needs}
-use Rattle.optable.proofs.start.Statement.{statement}
-use Rattle.optable.proofs.start.Tie as tie
+use Rattle.start.proofs.start.Statement.{statement}
+use Rattle.start.proofs.start.Tie as tie
 
 durable-as-requires : tie.Need-durable-as-requires
 durable-as-requires c κs = search needs

@@ -1,4 +1,4 @@
--- `optable::find` meets its contract: a walk of its MIR by hand, since the borrow checker covers no function over a `&[Row]`. In one arm the slice is
+-- `rows::find` meets its contract: a walk of its MIR by hand, since the borrow checker covers no function over a `&[Row]`. In one arm the slice is
 -- looked into and the row is read whole from its cell; in the other `freed_row` is called, and the place is past the end. `leaves` walks what follows
 -- the branch, once for both. Of the callee the proof knows that it meets its contract.
 use mathlib.Core.Path.{_≡_, refl, sym}
@@ -41,16 +41,16 @@ use denote.Triple.Table.{entered, cited}
 use denote.Triple.Walked.{says, Stays, stay-none-slice, stay-none, walkOf, goes-none-slice, goes-none, Walks, ends-at, walked, walk-meets}
 use Rattle.model.specs.declared.Row.{Row}
 use Rattle.model.specs.State.{freed}
 use Rattle.optable.proofs.Element.{R, ty, val, vals, tells, offset-fits, typed, makes, copy}
 use Rattle.optable.proofs.Freed.{FreedRow, to-freed-row, goes-freed-row, freed-row-comes}
 use Rattle.optable.proofs.freed_row.Symbol as freed-row-def
 use Rattle.optable.proofs.freed_row.Symbol.{name as #optable·freed-row}
 use Rattle.optable.proofs.freed_row.Met as freed-row-thm
-use Rattle.optable.proofs.find.Key.{name as #optable·find}
-use Rattle.optable.proofs.find as self
-use Rattle.optable.proofs.find.Statement as stated
-use Rattle.optable.proofs.find.Code as code
-use Rattle.optable.proofs.find.Code.Mir as parts
+use Rattle.rows.proofs.find.Key.{name as #optable·find}
+use Rattle.rows.proofs.find as self
+use Rattle.rows.proofs.find.Statement as stated
+use Rattle.rows.proofs.find.Code as code
+use Rattle.rows.proofs.find.Code.Mir as parts
 
 abbrev stayed : Stays (self.ended .signature .params) (self.ended .kept)
 stayed = (stay-none-slice (0 ∷ []) tt (plain (λ _. R)) yes, (stay-none (λ _. usize) yes, tt))

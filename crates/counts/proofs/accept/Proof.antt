@@ -1,19 +1,19 @@
--- `optable::accept` meets its contract: one of the functions over lent counts, of whether an operation is accepted.
+-- `counts::accept` meets its contract: one of the functions over lent counts, of whether an operation is accepted.
 use mathlib.Core.Path.{_≡_, refl}
 use base.Logic.{emp}
 use contract.Monad.{factI}
 use contract.Running.{givenOf, tables, tablesOf}
 use denote.Triple.Spec.{tripleOf}
 use denote.Triple.Table.{entered, cited}
 use Rattle.optable.specs.Counted.{acceptedIf}
-use Rattle.optable.proofs.Counted.{flag, Callee, meets}
+use Rattle.counts.proofs.Counted.{flag, Callee, meets}
 use Rattle.optable.proofs.accepted.Symbol as accepted-def
 use Rattle.optable.proofs.accepted.Symbol.{name as #optable·accepted}
 use Rattle.optable.proofs.accepted.Met as accepted-thm
-use Rattle.optable.proofs.accept.Key.{name as #optable·accept}
-use Rattle.optable.proofs.accept as self
-use Rattle.optable.proofs.accept.Statement as stated
-use Rattle.optable.proofs.accept.Code as code
+use Rattle.counts.proofs.accept.Key.{name as #optable·accept}
+use Rattle.counts.proofs.accept as self
+use Rattle.counts.proofs.accept.Statement as stated
+use Rattle.counts.proofs.accept.Code as code
 
 pub accept-spec : {M : Type 1} → stated.statement M
 unfolding code.routine tablesOf

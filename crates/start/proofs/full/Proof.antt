@@ -1,4 +1,4 @@
--- `optable::full` meets its contract: the test is made by a difference, and says the same of the sum.
+-- `start::full` meets its contract: the test is made by a difference, and says the same of the sum.
 use mathlib.Core.Path.{_≡_, refl, sym, ap}
 use mathlib.Core.Bool.{Bool, true, false, not}
 use Prim.Native.Nat.{ℕ, _+_, _-_, _<_}
@@ -6,8 +6,8 @@ use native.Mathlib.Omega.{arith}
 use borrow.Author.Tests.{le-ltb, lt-leb, le-leb, ltb-true, ltb-false}
 use lib.Dec.{leb, ltb}
 use borrow.Author.Needs.{needs}
-use Rattle.optable.proofs.full.Statement.{statement}
-use Rattle.optable.proofs.full.Tie as tie
+use Rattle.start.proofs.full.Statement.{statement}
+use Rattle.start.proofs.full.Tie as tie
 
 returns : tie.Need-returns
 returns c =

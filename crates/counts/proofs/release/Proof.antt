@@ -1,19 +1,19 @@
--- `optable::release` meets its contract: one of the functions over lent counts, of what a call frees.
+-- `counts::release` meets its contract: one of the functions over lent counts, of what a call frees.
 use mathlib.Core.Path.{_≡_, refl}
 use base.Logic.{emp}
 use contract.Monad.{factI}
 use contract.Running.{givenOf, tables, tablesOf}
 use denote.Triple.Spec.{tripleOf}
 use denote.Triple.Table.{entered, cited}
 use Rattle.optable.specs.Counted.{releasedBy}
-use Rattle.optable.proofs.Counted.{frees, Callee, meets}
+use Rattle.counts.proofs.Counted.{frees, Callee, meets}
 use Rattle.optable.proofs.released.Symbol as released-def
 use Rattle.optable.proofs.released.Symbol.{name as #optable·released}
 use Rattle.optable.proofs.released.Met as released-thm
-use Rattle.optable.proofs.release.Key.{name as #optable·release}
-use Rattle.optable.proofs.release as self
-use Rattle.optable.proofs.release.Statement as stated
-use Rattle.optable.proofs.release.Code as code
+use Rattle.counts.proofs.release.Key.{name as #optable·release}
+use Rattle.counts.proofs.release as self
+use Rattle.counts.proofs.release.Statement as stated
+use Rattle.counts.proofs.release.Code as code
 
 pub release-spec : {M : Type 1} → stated.statement M
 unfolding code.routine tablesOf

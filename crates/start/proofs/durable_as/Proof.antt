@@ -1,10 +1,10 @@
--- `optable::durable_as` meets its contract: each arm knows which kind it is, and there the definition computes.
+-- `start::durable_as` meets its contract: each arm knows which kind it is, and there the definition computes.
 use mathlib.Core.Path.{sym, ap}
 use Rattle.model.specs.declared.Kind.{Kind}
 use Rattle.step.specs.Step.{durableAs}
 use borrow.Author.Needs.{needs}
-use Rattle.optable.proofs.durable_as.Statement.{statement}
-use Rattle.optable.proofs.durable_as.Tie as tie
+use Rattle.start.proofs.durable_as.Statement.{statement}
+use Rattle.start.proofs.durable_as.Tie as tie
 
 enum-told : tie.Need-enum-told
 enum-told c = search needs

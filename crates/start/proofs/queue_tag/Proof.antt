@@ -1,9 +1,9 @@
--- `optable::queue_tag` meets its contract, by that of the wrapping sum.
+-- `start::queue_tag` meets its contract, by that of the wrapping sum.
 use Rattle.regionmap.specs.Words.{wrap64}
 use Rattle.step.specs.Step.{queueTag}
 use borrow.Author.Needs.{needs}
-use Rattle.optable.proofs.queue_tag.Statement.{statement}
-use Rattle.optable.proofs.queue_tag.Tie as tie
+use Rattle.start.proofs.queue_tag.Statement.{statement}
+use Rattle.start.proofs.queue_tag.Tie as tie
 
 mul-wrapping-add-u64 : tie.Need-mul-wrapping-add-u64
 mul-wrapping-add-u64 c = search needs

@@ -1,4 +1,4 @@
--- `optable::claim` meets its contract: a walk of its MIR by hand, since the borrow checker covers no function over a `&mut [Row]`. In one arm the borrow
+-- `rows::claim` meets its contract: a walk of its MIR by hand, since the borrow checker covers no function over a `&mut [Row]`. In one arm the borrow
 -- is opened, the row is stored to its cell, and the borrow is closed; in the other the place is past the end, where `set` changes nothing. `leaves`
 -- walks what follows the branch, once for both.
 use mathlib.Core.Path.{_≡_, refl, sym, _∙_, ap}
@@ -39,13 +39,13 @@ use denote.Triple.Spec.{Meets, tripleOf}
 use denote.Triple.Table.{entered}
 use denote.Triple.Walked.{says, Stays, stay-slice, stay-none, walkOf, goes-slice, goes-none, Walks, ends-at, walked, walk-meets}
 use Rattle.model.specs.declared.Row.{Row}
 use Rattle.optable.proofs.Element.{R, ty, val, vals, tells, offset-fits, typed, makes}
 use Rattle.optable.proofs.Rows.{rows-at, Seen, Lent, rows-own}
-use Rattle.optable.proofs.claim.Key.{name as #optable·claim}
-use Rattle.optable.proofs.claim as self
-use Rattle.optable.proofs.claim.Statement as stated
-use Rattle.optable.proofs.claim.Code as code
-use Rattle.optable.proofs.claim.Code.Mir as parts
+use Rattle.rows.proofs.claim.Key.{name as #optable·claim}
+use Rattle.rows.proofs.claim as self
+use Rattle.rows.proofs.claim.Statement as stated
+use Rattle.rows.proofs.claim.Code as code
+use Rattle.rows.proofs.claim.Code.Mir as parts
 
 abbrev stayed : Stays (self.ended .signature .params) (self.ended .kept)
 stayed = (stay-slice (0 ∷ []) tt (plain (λ _. R)), (stay-none (λ _. usize) yes, (stay-none (λ _. R) yes, tt)))

@@ -1,4 +1,4 @@
--- `optable::new` meets its contract: a walk of its MIR by hand, since the borrow checker covers no function over a `&mut [Row]`. `smaller` says how
+-- `rows::new` meets its contract: a walk of its MIR by hand, since the borrow checker covers no function over a `&mut [Row]`. `smaller` says how
 -- many rows are done; each turn of the loop has a freed row of `freed_row`, opens the borrow, stores the row to its cell and closes the borrow.
 -- The loop's variant is the index and the list there, which is the first rows opened up to the index (`Opened`), ordered by what is left to do.
 -- Of the two callees the proof knows that they meet their contracts.
@@ -47,23 +47,23 @@ use denote.Triple.Walked.{says, Stays, stay-slice, stay-none, walkOf, goes-slice
 use Rattle.model.specs.declared.Row.{Row}
 use Rattle.model.specs.State.{freed}
 use Rattle.model.specs.Memory.{rowsOpened}
 use Rattle.optable.proofs.Element.{R, ty, vals, tells, offset-fits, typed}
 use Rattle.optable.proofs.Freed.{FreedRow, to-freed-row, goes-freed-row, freed-row-comes}
 use Rattle.optable.proofs.Opened.{none-opened, opened-length, opened-more}
 use Rattle.optable.proofs.Least.{Smaller, to-smaller, goes-smaller, smaller-comes}
 use Rattle.optable.proofs.Rows.{rows-at, Seen, Lent, rows-own}
 use Rattle.optable.proofs.Walk.{after}
 use Rattle.optable.proofs.smaller.Symbol as smaller-def
 use Rattle.optable.proofs.smaller.Symbol.{name as #optable·smaller}
 use Rattle.optable.proofs.smaller.Met as smaller-thm
 use Rattle.optable.proofs.freed_row.Symbol as freed-row-def
 use Rattle.optable.proofs.freed_row.Symbol.{name as #optable·freed-row}
 use Rattle.optable.proofs.freed_row.Met as freed-row-thm
-use Rattle.optable.proofs.new.Key.{name as #optable·new}
-use Rattle.optable.proofs.new as self
-use Rattle.optable.proofs.new.Statement as stated
-use Rattle.optable.proofs.new.Code as code
-use Rattle.optable.proofs.new.Code.Mir as parts
+use Rattle.rows.proofs.new.Key.{name as #optable·new}
+use Rattle.rows.proofs.new as self
+use Rattle.rows.proofs.new.Statement as stated
+use Rattle.rows.proofs.new.Code as code
+use Rattle.rows.proofs.new.Code.Mir as parts
 
 abbrev Arg : Type 0
 Arg = RefT (List Row) × (ℕ × Unit {0})
