@@ -65,7 +65,7 @@ pub fn touch(
         owners: owners.len() as u64,
         pool: pool.len() as u64,
     };
-    if !store::same_lengths(store, l) {
+    if !lengths::same_lengths(store, l) {
         return called::away(row, Refusal::Unfit);
     }
     match call {

@@ -104,7 +104,7 @@ fn fitted(
         owners: owners.len() as u64,
         pool: pool.len() as u64,
     };
-    if store::same_lengths(store, l) {
+    if lengths::same_lengths(store, l) {
         let o = settings::settings(store);
         Fit {
             fits: true,

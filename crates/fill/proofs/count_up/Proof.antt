@@ -1,4 +1,4 @@
--- `store::fill::count_up` meets its contract. The loop's invariant: the first i words count up from 0, and nothing else has changed.
+-- `fill::count_up` meets its contract. The loop's invariant: the first i words count up from 0, and nothing else has changed.
 use mathlib.Core.Path.{_≡_, refl, sym, ap, ap₂, _∙_}
 use mathlib.Core.List.{List, [], _∷_, _++_}
 use Prim.Native.Nat.{ℕ, zero, suc, _+_, _-_, _≤_, _<_}
@@ -8,8 +8,8 @@ use native.Mathlib.Omega.{arith}
 use borrow.Author.Needs.{needs}
 use lib.ListN.{length, drop, set, length-set}
 use Rattle.model.specs.State.{upFrom}
-use Rattle.store.proofs.fill.count_up.Statement.{statement}
-use Rattle.store.proofs.fill.count_up.Tie as tie
+use Rattle.fill.proofs.count_up.Statement.{statement}
+use Rattle.fill.proofs.count_up.Tie as tie
 
 -- a store of the next number at its place
 counted : (k n : ℕ) (d : List ℕ) → n < length d → set (upFrom k n ++ drop n d) n (k + n) ≡ upFrom k (suc n) ++ drop (suc n) d

@@ -1,4 +1,4 @@
--- `store::fill::zeros` meets its contract. The loop's invariant: the first i words are 0, and nothing else has changed.
+-- `fill::zeros` meets its contract. The loop's invariant: the first i words are 0, and nothing else has changed.
 use mathlib.Core.Path.{_≡_, refl, ap, _∙_}
 use mathlib.Core.List.{List, _++_}
 use Prim.Native.Nat.{ℕ, _-_, _≤_}
@@ -6,8 +6,8 @@ use native.Mathlib.Omega.{arith}
 use borrow.Author.Fill.{fill-none, fill-more}
 use borrow.Author.Needs.{needs}
 use lib.ListN.{length, drop, replicate, set, length-set}
-use Rattle.store.proofs.fill.zeros.Statement.{statement}
-use Rattle.store.proofs.fill.zeros.Tie as tie
+use Rattle.fill.proofs.zeros.Statement.{statement}
+use Rattle.fill.proofs.zeros.Tie as tie
 
 abbrev Inv-loop : tie.InvT-loop
 Inv-loop dst₀ n i₀ dst i = (i ≤ n) × (dst ≡ replicate i 0 ++ drop i dst₀) × (length dst ≡ length dst₀)

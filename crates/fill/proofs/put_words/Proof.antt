@@ -1,4 +1,4 @@
--- `store::fill::put_words` meets its contract. The loop's invariant: the first i words are copied, and nothing else has changed.
+-- `fill::put_words` meets its contract. The loop's invariant: the first i words are copied, and nothing else has changed.
 use mathlib.Core.Path.{_≡_, refl, sym, ap, _∙_}
 use mathlib.Core.List.{List, _++_}
 use Prim.Native.Nat.{ℕ, _+_, _-_, _≤_}
@@ -7,8 +7,8 @@ use native.Mathlib.Omega.{arith}
 use borrow.Author.Needs.{needs}
 use lib.ListN.{length, take, drop, getD, set, length-set}
 use lib.Seq.{paste, paste-zero, paste-suc, take-length}
-use Rattle.store.proofs.fill.put_words.Statement.{statement}
-use Rattle.store.proofs.fill.put_words.Tie as tie
+use Rattle.fill.proofs.put_words.Statement.{statement}
+use Rattle.fill.proofs.put_words.Tie as tie
 
 abbrev Inv-loop : tie.InvT-loop
 Inv-loop src dst₀ at i₀ dst i = (i ≤ length src) × (dst ≡ paste dst₀ at src i) × (length dst ≡ length dst₀)

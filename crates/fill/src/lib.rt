@@ -9,7 +9,7 @@ use model::Lengths;
 use model::Opening;
 
 // All words of src, copied to dst from `at` on.
-pub(crate) fn put_words(src: &[u64], dst: &mut [u64], at: usize)
+pub fn put_words(src: &[u64], dst: &mut [u64], at: usize)
     requires { ⌜ at + length (now src) ≤ length (now dst) ⌝ }
     ensures { λ _. ⌜ now (dst .exit) ≡ take at (now (dst .entry)) ++ now (src .entry) ++ drop (at + length (now (src .entry))) (now (dst .entry)) ⌝ }
 {
@@ -21,7 +21,7 @@ pub(crate) fn put_words(src: &[u64], dst: &mut [u64], at: usize)
 }
 
 // The first n words become 0.
-pub(crate) fn zeros(dst: &mut [u64], n: usize)
+pub fn zeros(dst: &mut [u64], n: usize)
     requires { ⌜ n ≤ length (now dst) ⌝ }
     ensures { λ _. ⌜ now (dst .exit) ≡ replicate n 0 ++ drop n (now (dst .entry)) ⌝ }
 {
@@ -33,7 +33,7 @@ pub(crate) fn zeros(dst: &mut [u64], n: usize)
 }
 
 // The first n words become 0, 1, 2 and so on: the free stack at first, row 0 on top.
-pub(crate) fn count_up(dst: &mut [u64], n: usize)
+pub fn count_up(dst: &mut [u64], n: usize)
     requires { ⌜ n ≤ length (now dst) ⌝ }
     ensures { λ _. ⌜ now (dst .exit) ≡ upFrom 0 n ++ drop n (now (dst .entry)) ⌝ }
 {
@@ -52,7 +52,7 @@ fn word(b: bool) -> u64
 }
 
 // The settings, the lengths, no poison, open gates, and then the plan's regions.
-pub(crate) fn put_store(o: Opening, plan: &[u64], l: Lengths, store: &mut [u64])
+pub fn put_store(o: Opening, plan: &[u64], l: Lengths, store: &mut [u64])
     requires { ⌜ (o .regions ≤ 8) × ((70 * o .regions ≤ length (now plan)) × (48 + 70 * o .regions ≤ length (now store))) ⌝ }
     ensures { λ _. ⌜ now (store .exit) ≡ storeOpened o (now (plan .entry)) l (now (store .entry)) ⌝ }
 {

@@ -1,4 +1,4 @@
--- `store::same_lengths` meets its contract: too few words are refused first, else each test is the definition's.
+-- `lengths::same_lengths` meets its contract: too few words are refused first, else each test is the definition's.
 use mathlib.Core.Path.{_≡_, sym, ap}
 use mathlib.Core.Bool.{Bool, _&&_}
 use mathlib.Core.List.{List}
@@ -9,8 +9,8 @@ use lib.ListN.{length, getD}
 use lib.Dec.{eqb}
 use Rattle.model.specs.declared.Lengths.{Lengths}
 use Rattle.model.specs.Memory.{sameLengths}
-use Rattle.store.proofs.same_lengths.Statement.{statement}
-use Rattle.store.proofs.same_lengths.Tie as tie
+use Rattle.lengths.proofs.same_lengths.Statement.{statement}
+use Rattle.lengths.proofs.same_lengths.Tie as tie
 
 -- the tests behind the first
 abbrev others : Lengths → List ℕ → Bool

@@ -1,4 +1,4 @@
--- `store::fill::put_store` meets its contract: the head is put at the front, the plan's regions behind it, and both lists are the definition's.
+-- `fill::put_store` meets its contract: the head is put at the front, the plan's regions behind it, and both lists are the definition's.
 use mathlib.Core.Path.{_≡_, refl, sym, ap, ap₂, _∙_}
 use mathlib.Core.List.{List, [], _∷_, _++_}
 use Prim.Native.Nat.{ℕ, _+_, _*_, _≤_}
@@ -9,8 +9,8 @@ use lib.Seq.{length-take-le, take-at, drop-append-add, drop-drop}
 use Rattle.model.specs.declared.Opening.{Opening}
 use Rattle.model.specs.declared.Lengths.{Lengths}
 use Rattle.model.specs.Memory.{storeHead, over, storeOpened}
-use Rattle.store.proofs.fill.put_store.Statement.{statement}
-use Rattle.store.proofs.fill.put_store.Tie as tie
+use Rattle.fill.proofs.put_store.Statement.{statement}
+use Rattle.fill.proofs.put_store.Tie as tie
 
 -- the settings and the lengths, with the two flags as words; the head has zeros behind them
 abbrev settings : Opening → Lengths → ℕ → ℕ → List ℕ
