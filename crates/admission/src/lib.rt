@@ -68,7 +68,7 @@ pub fn admit(
     if !held {
         return Asked::No(Refusal::NotHeld(c));
     }
-    if optable::full(counts, depth) {
+    if start::full(counts, depth) {
         return Asked::No(Refusal::QueueFull(c));
     }
     if lifetime <= counts.submissions {

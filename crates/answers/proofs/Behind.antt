@@ -12,7 +12,7 @@ use Rattle.model.specs.declared.Counts.{Counts}
 use Rattle.model.specs.declared.Row.{Row}
 use Rattle.model.specs.Memory.{lengthsOf, settingsIn}
 use Rattle.step.specs.Step.{completionOf}
-use Rattle.publish.proofs.Laws.{queue-laws}
+use Rattle.ring.proofs.Laws.{queue-laws}
 use Rattle.marks.proofs.Laws.{poison-laws}
 use Rattle.called.specs.Called.{lentOf, Beyond}
 use Rattle.settle.specs.declared.Finished.{Finished}

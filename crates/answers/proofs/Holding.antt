@@ -15,7 +15,7 @@ use Rattle.step.proofs.Named.{named-live}
 use Rattle.step.proofs.Counts.{live-set}
 use Rattle.step.proofs.Buffers.{in-pool}
 use Rattle.step.proofs.Memory.{lengths-are}
-use Rattle.publish.specs.Queue.{Ring}
+use Rattle.ring.specs.Queue.{Ring}
 use Rattle.called.specs.Called.{lentOf}
 use Rattle.firstpiece.proofs.Found.{free-long}
 use Rattle.marks.proofs.Calling.{enough}

@@ -23,8 +23,8 @@ use Rattle.model.specs.Memory.{Lent, CompletionFits, settingsIn, poisonIn, read
 use Rattle.step.specs.Step.{raised, awaitsNow, bytesAt, oneLess, keptBy, poisonWith, going, freeing, completionOf, withPoison}
 use Rattle.optable.specs.declared.Frees.the-variants.{Rejected as oneRejected, Completed as oneCompleted}
 use Rattle.optable.specs.Counted.{releasedBy}
-use Rattle.publish.specs.Queue.{Ring, published}
-use Rattle.publish.proofs.Laws.{queue-laws}
+use Rattle.ring.specs.Queue.{Ring, published}
+use Rattle.ring.proofs.Laws.{queue-laws}
 use Rattle.called.specs.Called.{lentOf}
 use Rattle.settle.specs.declared.Turn.{Turn}
 use Rattle.settle.specs.Finished.{turnedBy, causeIs}

@@ -76,7 +76,7 @@ fn flush_finished(qtag: u64, o: Opening, row: Row, result: Flushed) -> Finished
     if !known(o, row, qtag) {
         return Finished::Away(Refusal::UnknownTag);
     }
-    finish::flushed(o, row, result)
+    flushed::flushed(o, row, result)
 }
 
 // An answer arrives.

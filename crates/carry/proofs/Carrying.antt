@@ -25,7 +25,7 @@ use Rattle.model.specs.declared.Row.{Row}
 use Rattle.model.specs.Opening.{Plan}
 use Rattle.model.specs.State.{freed}
 use Rattle.optable.specs.declared.Frees.the-variants.{Completed as oneCompleted}
-use Rattle.publish.specs.Queue.{published}
+use Rattle.ring.specs.Queue.{published}
 use Rattle.liveregion.specs.declared.LiveRegion.{LiveRegion}
 use Rattle.step.specs.Step.{raised, completionOf, rowOf, rejection}
 use Rattle.called.specs.declared.Touched.{Touched}

@@ -31,7 +31,7 @@ use Rattle.called.specs.declared.Touched.{Touched}
 use Rattle.called.specs.Called.{awayWith}
 use Rattle.liveregion.specs.declared.LiveRegion.{LiveRegion}
 use Rattle.firstpiece.specs.Piece.{PieceIn}
-use Rattle.publish.specs.Queue.{published}
+use Rattle.ring.specs.Queue.{published}
 use Rattle.marks.specs.Marks.{poisonedIn}
 use Rattle.settle.specs.declared.Turn.{Turn}
 use Rattle.settle.specs.declared.Finished.{Finished}

@@ -10,7 +10,7 @@ ghost use Rattle.model.specs.Opening.{Plan};
 ghost use Rattle.liveregion.specs.declared.LiveRegion.{LiveRegion};
 ghost use Rattle.regionmap.specs.Words.{wrap64};
 ghost use Rattle.firstpiece.specs.Piece.{PieceIn};
-ghost use Rattle.publish.specs.Queue.{published};
+ghost use Rattle.ring.specs.Queue.{published};
 ghost use Rattle.step.specs.Rules.{firstOf, rangeOf, opOf};
 ghost use Rattle.step.specs.Step.{raised, awaitsNow, completionOf, rowOf, rejection as rejectionOf};
 ghost use Rattle.settle.specs.declared.Finished.the-variants.{Next as next, Ended as ended, Rejected as rejected};
@@ -90,7 +90,7 @@ fn poison(store: &mut [u64], cause: Poisoned)
 {
     match cause {
         Poisoned::Never => {}
-        Poisoned::First(c) => marks::poison(store, c),
+        Poisoned::First(c) => poison::poison(store, c),
     }
 }
 

@@ -50,9 +50,9 @@ pub fn arm(
         } => answers::answer(qtag, answer, back, flushes, row, counts, rows, store, free, ready, owners, pool),
         Call::Flushed { qtag, result } => answers::flushed(qtag, result, row, counts, rows, store, free, ready, owners, pool),
         Call::Take => taking::take(row, counts, store, ready, owners),
-        Call::SetGate { handle, gate } => marks::set_gate(row, store, handle, gate),
-        Call::SetReadOnly { handle, on } => marks::set_read_only(row, store, handle, on),
-        Call::SetForced { handle, on } => marks::set_forced(row, store, handle, on),
-        Call::ReportPoison(cause) => marks::report_poison(row, store, cause),
+        Call::SetGate { handle, gate } => regionmarks::set_gate(row, store, handle, gate),
+        Call::SetReadOnly { handle, on } => regionmarks::set_read_only(row, store, handle, on),
+        Call::SetForced { handle, on } => regionmarks::set_forced(row, store, handle, on),
+        Call::ReportPoison(cause) => poison::report_poison(row, store, cause),
     }
 }

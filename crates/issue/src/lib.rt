@@ -34,11 +34,11 @@ pub fn issue(v: Verdict, row: Row, seq: u64, owners: &mut [u64], q: Request) -> 
             lend(owners, q.buffer);
             let offset = piece.offset;
             Touched {
-                row: optable::start(row.generation, seq, kind, q),
+                row: start::start(row.generation, seq, kind, q),
                 accepts: true,
                 frees: Frees::Nothing,
                 reply: Reply::Piece {
-                    qtag: optable::queue_tag(at, row.generation),
+                    qtag: start::queue_tag(at, row.generation),
                     offset,
                     count: piece.count,
                     buffer: q.buffer,

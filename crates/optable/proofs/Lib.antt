@@ -1,6 +1,5 @@
 -- What proofs over a lent slice of rows and over lent counts use, here and in the crates above.
 pub mod Called
-pub mod Counted
 pub mod Element
 pub mod Freed
 pub mod Least

@@ -29,7 +29,7 @@ pub fn touch(
         owners: owners.len() as u64,
         pool: pool.len() as u64,
     };
-    if !store::same_lengths(store, l) {
+    if !lengths::same_lengths(store, l) {
         return called::away(row, Refusal::Unfit);
     }
     dispatch::arm(call, row, counts, rows, store, free, ready, owners, pool)

@@ -1,8 +1,8 @@
--- What the proofs of this crate and of finish share: a count that is written, a receipt that is synced, a sum that fits, an answer that is no count,
+-- What the proofs of this crate and of those above it share: a count that is written, a sum that fits, an answer that is no count,
 -- an end and a ticket by their parts.
-use mathlib.Core.Path.{_≡_, refl, sym, ap, _∙_}
+use mathlib.Core.Path.{_≡_, sym, ap, _∙_}
 use mathlib.Core.Logic.{⊎-elim}
-use mathlib.Core.Bool.{Bool, true, false, not, _&&_, _||_}
+use mathlib.Core.Bool.{Bool, true, false, _&&_}
 use mathlib.Core.List.{List, [], _∷_}
 use mathlib.Core.Option.{Option}
 use Prim.Native.Nat.{ℕ, _+_, _-_, _%_, _≤_, _<_, _^_}
@@ -53,11 +53,6 @@ module _ (done total n : ℕ) where
 
   pub fills : (left : ℕ) (r : Bool) → left ≡ total - done → r ≡ (leb done total && eqb n left) → r ≡ eqb (done + n) total
   fills left r e h = h ∙ ap (λ (k : ℕ). leb done total && eqb n k) e ∙ both-ways
-
--- neither holds just where each does not
-pub neither : (a b : Bool) → (not a && not b) ≡ not (a || b)
-neither true b = refl
-neither false b = refl
 
 -- ---- sums
 

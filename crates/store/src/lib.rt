@@ -1,11 +1,6 @@
 // The opening (store-io's store.rs and optable.rs make what is opened; the rules are document 01's). It answers 13 where a rule is broken and
 // then changes nothing; else it writes the table into what is lent.
-mod fill;
-
-ghost use mathlib.Core.Path.{_≡_};
-ghost use Rattle.model.specs.Memory.{sameLengths};
 ghost use Rattle.store.specs.Prepared.{lengthsWith, Prepared};
-use layout::both;
 use model::Lengths;
 use model::Opening;
 
@@ -40,19 +35,4 @@ pub fn prepare(
     fill::zeros(ready, 1);
     fill::zeros(owners, buffers);
     depth
-}
-
-// Whether what is lent to a later call has the lengths of the opening: "A later call with another length of row memory or pool gets 13 first."
-pub fn same_lengths(store: &[u64], l: Lengths) -> bool
-    ensures { λ r. ⌜ r ≡ sameLengths l (now (store .entry)) ⌝ }
-{
-    if store.len() < 48 {
-        return false;
-    }
-    let pool = l.pool == store[18];
-    let owners = both(l.owners == store[17], pool);
-    let ready = both(l.ready == store[16], owners);
-    let free = both(l.free == store[15], ready);
-    let words = both(l.store == store[14], free);
-    both(l.rows == store[13], words)
 }

@@ -35,9 +35,9 @@ use Rattle.optable.proofs.Element.{R}
 use Rattle.optable.proofs.Element as Element
 use Rattle.optable.proofs.Tally.{N}
 use Rattle.optable.proofs.Tally as Tally
-use Rattle.optable.proofs.Counted.{Plain, ended, counts-become, Becomes}
-use Rattle.optable.proofs.find as find
-use Rattle.optable.proofs.claim as claim
+use Rattle.counts.proofs.Counted.{Plain, ended, counts-become, Becomes}
+use Rattle.rows.proofs.find as find
+use Rattle.rows.proofs.claim as claim
 use Rattle.called.specs.declared.Touched.{Touched}
 use Rattle.called.specs.Called.{placeOf}
 use Rattle.called.proofs.place as place

@@ -35,7 +35,7 @@ use Rattle.called.proofs.Touched as Decided
 use Rattle.called.proofs.Touched.Laws as DecidedLaws
 use Rattle.optable.proofs.Element.{R}
 use Rattle.optable.proofs.Element as Element
-use Rattle.optable.proofs.Counted.{frees}
+use Rattle.counts.proofs.Counted.{frees}
 use Rattle.submitter.specs.declared.Fit.{Fit}
 use Rattle.submitter.proofs.Fit as Fitting
 use Rattle.submitter.proofs.Fit.Laws as FittingLaws

@@ -52,7 +52,7 @@ pub fn open(
     ensures { λ r. ⌜ OpensTo o (now (plan .entry)) (lentOf (now (rows .entry)) (now (store .entry)) (now (free .entry)) (now (ready .entry)) (now (owners .entry)) (now (pool .entry))) r (now (rows .exit)) (now (store .exit)) (now (free .exit)) (now (ready .exit)) (now (owners .exit)) ⌝ }
 {
     let depth = store::prepare(o, plan, rows.len(), store, free, ready, owners, pool.len());
-    optable::new(rows, depth);
+    rows::new(rows, depth);
     reply(depth)
 }
 
@@ -72,11 +72,11 @@ pub fn call(
 {
     let c = *counts;
     let at = called::place(call, c, free) as usize;
-    let row = optable::find(rows, at);
+    let row = rows::find(rows, at);
     let t = queuecore::touch(call, row, c, rows.len(), store, free, ready, owners, pool);
-    optable::claim(rows, at, t.row);
-    optable::accept(counts, t.accepts);
-    optable::release(counts, t.frees);
+    rows::claim(rows, at, t.row);
+    counts::accept(counts, t.accepts);
+    counts::release(counts, t.frees);
     t.reply
 }
 
@@ -104,7 +104,7 @@ fn fitted(
         owners: owners.len() as u64,
         pool: pool.len() as u64,
     };
-    if store::same_lengths(store, l) {
+    if lengths::same_lengths(store, l) {
         let o = settings::settings(store);
         Fit {
             fits: true,

@@ -28,8 +28,8 @@ use Rattle.step.proofs.Memory.{lengths-same, lengths-are}
 use Rattle.optable.specs.declared.Frees.the-variants.{Nothing as none, Taken}
 use Rattle.optable.specs.Counted.{acceptedIf, releasedBy}
 use Rattle.called.specs.Called.{lentOf, placeOf, Beyond, CallsTo, ArmTo}
-use Rattle.publish.specs.Queue.{Ring, oldestIn, popped}
-use Rattle.publish.proofs.Laws.{queue-laws}
+use Rattle.ring.specs.Queue.{Ring, oldestIn, popped}
+use Rattle.ring.proofs.Laws.{queue-laws}
 use Rattle.taking.specs.Taking.{backIn}
 use Rattle.taking.proofs.Owners.{Among, back-owners, back-behind, back-length, oldest-among}
 

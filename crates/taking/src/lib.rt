@@ -42,8 +42,8 @@ pub fn take(
         };
     }
     let o = settings::settings(store);
-    let c = publish::oldest(ready, o);
-    publish::pop(ready, o.depth);
+    let c = oldest::oldest(ready, o);
+    ring::pop(ready, o.depth);
     let buf = c.buf;
     give_back(owners, buf);
     Touched {

@@ -1,6 +1,6 @@
 -- `finish::finish` meets its contract: each arm knows whether the row awaits a piece.
 use Rattle.step.specs.Rules.{rules}
-use Rattle.finish.proofs.Finishing.{awaits-piece, no-piece}
+use Rattle.answered.proofs.Finishing.{awaits-piece, no-piece}
 use borrow.Author.Needs.{needs}
 use Rattle.finish.proofs.finish.Statement.{statement}
 use Rattle.finish.proofs.finish.Tie as tie

@@ -3,8 +3,8 @@ use mathlib.Core.Path.{sym, ap₂, _∙_}
 use mathlib.Core.List.{List}
 use Prim.Native.Nat.{ℕ}
 use native.Mathlib.Omega.{arith}
-use Rattle.publish.specs.Queue.{placed}
-use Rattle.publish.proofs.Places.{is-ring, place-room, published-in, published-not}
+use Rattle.ring.specs.Queue.{placed}
+use Rattle.ring.proofs.Places.{is-ring, place-room, published-in, published-not}
 use borrow.Author.Needs.{needs}
 use Rattle.publish.proofs.publish.Statement.{statement}
 use Rattle.publish.proofs.publish.Tie as tie

@@ -6,7 +6,7 @@ use native.Mathlib.Numerals.{add-one}
 use native.Mathlib.Omega.{arith}
 use lib.ListN.{length, getD, set}
 use lib.Seq.{paste, paste-zero, paste-suc, length-paste}
-use Rattle.publish.proofs.Places.{paste-placed}
+use Rattle.ring.proofs.Places.{paste-placed}
 use Rattle.publish.proofs.put.Statement.{statement}
 use Rattle.publish.proofs.put.Tie as tie
 

@@ -48,19 +48,19 @@ use Rattle.optable.proofs.Element.{R}
 use Rattle.optable.proofs.Element as Element
 use Rattle.optable.proofs.Tally.{N}
 use Rattle.optable.proofs.Tally as Tally
-use Rattle.optable.proofs.Counted.{flag, frees, Becomes}
-use Rattle.optable.proofs.find.Symbol as find-def
-use Rattle.optable.proofs.find.Symbol.{name as #optable·find}
-use Rattle.optable.proofs.find.Met as find-thm
-use Rattle.optable.proofs.claim.Symbol as claim-def
-use Rattle.optable.proofs.claim.Symbol.{name as #optable·claim}
-use Rattle.optable.proofs.claim.Met as claim-thm
-use Rattle.optable.proofs.accept.Symbol as accept-def
-use Rattle.optable.proofs.accept.Symbol.{name as #optable·accept}
-use Rattle.optable.proofs.accept.Met as accept-thm
-use Rattle.optable.proofs.release.Symbol as release-def
-use Rattle.optable.proofs.release.Symbol.{name as #optable·release}
-use Rattle.optable.proofs.release.Met as release-thm
+use Rattle.counts.proofs.Counted.{flag, frees, Becomes}
+use Rattle.rows.proofs.find.Symbol as find-def
+use Rattle.rows.proofs.find.Symbol.{name as #optable·find}
+use Rattle.rows.proofs.find.Met as find-thm
+use Rattle.rows.proofs.claim.Symbol as claim-def
+use Rattle.rows.proofs.claim.Symbol.{name as #optable·claim}
+use Rattle.rows.proofs.claim.Met as claim-thm
+use Rattle.counts.proofs.accept.Symbol as accept-def
+use Rattle.counts.proofs.accept.Symbol.{name as #optable·accept}
+use Rattle.counts.proofs.accept.Met as accept-thm
+use Rattle.counts.proofs.release.Symbol as release-def
+use Rattle.counts.proofs.release.Symbol.{name as #optable·release}
+use Rattle.counts.proofs.release.Met as release-thm
 use Rattle.called.specs.Called.{placeOf}
 use Rattle.called.proofs.place.Symbol as place-def
 use Rattle.called.proofs.place.Symbol.{name as #called·place}

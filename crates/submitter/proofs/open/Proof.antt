@@ -47,10 +47,10 @@ use Rattle.store.proofs.prepare.Symbol as prepare-def
 use Rattle.store.proofs.prepare.Symbol.{name as #store·prepare}
 use Rattle.store.proofs.prepare.Met as prepare-thm
 use Rattle.optable.proofs.Element.{R}
-use Rattle.optable.proofs.new as new
-use Rattle.optable.proofs.new.Symbol as new-def
-use Rattle.optable.proofs.new.Symbol.{name as #optable·new}
-use Rattle.optable.proofs.new.Met as new-thm
+use Rattle.rows.proofs.new as new
+use Rattle.rows.proofs.new.Symbol as new-def
+use Rattle.rows.proofs.new.Symbol.{name as #optable·new}
+use Rattle.rows.proofs.new.Met as new-thm
 use Rattle.submitter.specs.declared.Opened.{Opened}
 use Rattle.submitter.specs.Open.{openedWith}
 use Rattle.submitter.proofs.Opening.{opens-to}

@@ -1,0 +1,467 @@
+-- One event of a list through which an operation is served as demand 2 supposes: it leaves the operation as it stands, or takes its piece whole and the operation
+-- stands behind that piece, or the operation completes.
+use mathlib.Core.Path.{_≡_, refl, sym, ap, _∙_, subst, subst₂}
+use mathlib.Core.Logic.{_≢_, _⊎_, inl, inr}
+use mathlib.Core.Bool.{Bool, true, false}
+use mathlib.Core.Option.{Option, none, some}
+use mathlib.Core.List.{List, [], _∷_, _++_}
+use Prim.Native.Nat.{ℕ, _+_, _-_, _≤_, _<_}
+use native.Mathlib.Omega.{arith}
+use lib.ListN.{length, take, drop, getD}
+use lib.Seq.{drop-length, drop-append-seam}
+use Rattle.layout.specs.Pick.{pick}
+use Rattle.layout.proofs.Tests.{not-both, true-or-false}
+use Rattle.regionmap.specs.declared.Position.{Position}
+use Rattle.regionmap.specs.Map.{Map, place}
+use Rattle.posix.specs.Posix.{Card, pwrite}
+use Rattle.platform.specs.declared.Answer.{Answer}
+use Rattle.platform.specs.declared.Flushed.{Flushed}
+use Rattle.completion.specs.declared.Refusal.{Refusal}
+use Rattle.completion.specs.declared.Refusal.the-variants.{Unfit, UnknownTag, NotAwaited}
+use Rattle.completion.specs.declared.Reply.{Reply}
+use Rattle.completion.specs.declared.Reply.the-variants.{Piece as pieceReply, No as turnedAway, Rejected, Done, Flush as flushAsked, Took, None as noneReady, Ok, Writes, Mark}
+use Rattle.completion.specs.declared.Outcome.{Outcome}
+use Rattle.completion.specs.declared.Outcome.the-variants.{Read as readTo}
+use Rattle.completion.specs.declared.Buffer.the-variants.{Back}
+use Rattle.completion.specs.declared.Completion.{Completion}
+use Rattle.completion.specs.declared.WriteTicket.{WriteTicket}
+use Rattle.model.specs.declared.Kind.{Kind}
+use Rattle.model.specs.declared.Kind.the-variants.{Page, Read}
+use Rattle.model.specs.declared.Lengths.{Lengths}
+use Rattle.model.specs.declared.Split.{Split}
+use Rattle.model.specs.declared.Awaits.{Awaits}
+use Rattle.model.specs.declared.Awaits.the-variants.{Piece, Flush}
+use Rattle.model.specs.declared.Row.{Row}
+use Rattle.model.specs.State.{State, freed}
+use Rattle.model.specs.Opening.{Plan}
+use Rattle.step.specs.Questions.{regionAt}
+use Rattle.step.specs.Rules.{firstOf, lastOf, pieceLength, isWhole, splitAfter, Input, Input.answered, Input.flushed, Fate, Fate.away, Fate.awaits, Fate.ends, answerRules, flushRules, flushEnds, flushOutcome, rules}
+use Rattle.step.specs.Step.{rowAt, rowOf, isLive, names, bytesAt, raised, awaitsNow, completionOf, planOf, going, freeing, settled, fateOf, underTag, eqLengths}
+use Rattle.step.specs.Sound.{Sound}
+use Rattle.step.specs.Laws.{Made, Made.calls, Made.looks, Event, leave, done, next, replyTo}
+use Rattle.step.specs.Lists.{brought, isAway, planAt, Completed, withBytes, addedBy, isBrought, takesWhole, wroteBy, tagIn, cardBy, HostMay}
+use Rattle.step.specs.Demand2.{WholeTo, TakenWhole, Undisturbed}
+use Rattle.step.proofs.Picked.{by-pick}
+use Rattle.step.proofs.Away.{turned-away}
+use Rattle.step.proofs.AloneTags.{clash, live-in, names-live, names-generation, names-by}
+use Rattle.step.proofs.Buffers.{bytes-length}
+use Rattle.step.proofs.Histories.{leaves, keeps-next}
+use Rattle.step.proofs.Laws.{keeps}
+use Rattle.step.proofs.Fates.{Fitting, FateFits, fate-fits}
+use Rattle.step.proofs.CardBytes.{wrote-none}
+use Rattle.demands.proofs.ListsBrought.{brings}
+use Rattle.step.proofs.ProjectionFixed.{next-plans}
+use Rattle.step.proofs.ProjectionHost.{sole, live-in-table, left-alike}
+use Rattle.demands.proofs.ProjectionSet.{Changed, row-here, bytes-here}
+use Rattle.demands.proofs.Demand2Others.{wrote-unless, pool-others, other-row, done-row}
+use Rattle.demands.proofs.Demand2Bytes.{lying, lying-last, turned-on, turned-last, piece-written}
+use Rattle.step.proofs.Demand2Fate.{pages, Whole, Whole.next-piece, Whole.its-flush, Whole.completes, answer-whole}
+use Rattle.demands.proofs.Demand2Task.{Task, mappedTo, splitOf, sizeOf, hostsOf, onCard, Stage, Stage.piece, Stage.flush, InRow, Open, piece-ends, consecutive, piece-place, piece-size, loose-is, is-new}
+
+-- ---- an event that is turned away, or not
+
+record IsTurned (x : Reply) : Type 0 where
+  f : Refusal
+  is : x ≡ turnedAway f
+
+is-turned : (x : Reply) → isAway x ≡ true → IsTurned x
+unfolding isAway
+is-turned (pieceReply t o n b) e = absurd (not-both e refl)
+is-turned (turnedAway f) e = record { f = f; is = refl }
+is-turned (Rejected g o x b) e = absurd (not-both e refl)
+is-turned (Done t) e = absurd (not-both e refl)
+is-turned (flushAsked t n) e = absurd (not-both e refl)
+is-turned (Took c) e = absurd (not-both e refl)
+is-turned noneReady e = absurd (not-both e refl)
+is-turned Ok e = absurd (not-both e refl)
+is-turned (Writes x) e = absurd (not-both e refl)
+is-turned (Mark m) e = absurd (not-both e refl)
+
+away-done : (s : State) (l : Lengths) (m : Made) → isAway (done s l m .1) ≡ true → done s l m .0 ≡ s
+unfolding done
+away-done s l (calls c) e = let z = is-turned _ e in turned-away s l c (z .f) (z .is)
+away-done s l (looks x) e = refl
+
+away-same : (s : State) (e : Event) → isAway (replyTo s e) ≡ true → next s e ≡ leave s (e .leaves)
+unfolding next replyTo
+away-same s e gone = away-done (leave s (e .leaves)) (e .lengths) (e .made) gone
+
+away-card : (s : State) (e : Event) (card : Card) → isAway (replyTo s e) ≡ true → cardBy s e card ≡ card
+unfolding cardBy
+away-card s e card gone = by-pick (isAway (replyTo s e)) (λ (after : Card). after ≡ card) (λ z. refl) (λ heard. absurd (not-both gone heard))
+
+module _ (s : State) (e : Event) (t : ℕ) (i : Input) (bt : brought t (e .made) ≡ some i) where
+  abbrev s₁ : State
+  s₁ = leave s (e .leaves)
+
+  -- a tag that names no row
+  unnamed-away : names (rowAt s (rowOf t)) t ≡ false → isAway (replyTo s e) ≡ true
+  unfolding replyTo underTag isAway pick rowAt leave
+  unnamed-away n =
+      ap (λ (z : State × Reply). isAway (z .1)) (brings (e .made) t i bt .called-is s₁ (e .lengths))
+      ∙ by-pick (eqLengths (e .lengths) (s₁ .lengths)) (λ (z : State × Reply). isAway (z .1) ≡ true)
+      (λ same. ap (λ (b : Bool). isAway (pick b (settled s₁ t (rowAt s₁ (rowOf t)) (fateOf s₁ (rowAt s₁ (rowOf t)) i)) (s₁, turnedAway UnknownTag) .1)) n) (λ other. refl)
+
+  -- a tag that names one, where the event is not turned away
+  heard-settles : names (rowAt s (rowOf t)) t ≡ true → isAway (replyTo s e) ≡ false → done s₁ (e .lengths) (e .made) ≡ settled s₁ t (rowAt s (rowOf t)) (fateOf s₁ (rowAt s (rowOf t)) i)
+  unfolding replyTo underTag isAway pick rowAt leave
+  heard-settles n heard = by-lengths (eqLengths (e .lengths) (s₁ .lengths)) refl
+    where
+      by-lengths : (b : Bool) → eqLengths (e .lengths) (s₁ .lengths) ≡ b → done s₁ (e .lengths) (e .made) ≡ settled s₁ t (rowAt s (rowOf t)) (fateOf s₁ (rowAt s (rowOf t)) i)
+      by-lengths true q =
+          brings (e .made) t i bt .called-is s₁ (e .lengths) ∙ ap (λ (b : Bool). pick b (underTag s₁ t i) (s₁, turnedAway Unfit)) q
+          ∙ ap (λ (b : Bool). pick b (settled s₁ t (rowAt s₁ (rowOf t)) (fateOf s₁ (rowAt s₁ (rowOf t)) i)) (s₁, turnedAway UnknownTag)) n
+      by-lengths false q =
+          absurd (not-both (ap (λ (z : State × Reply). isAway (z .1)) (brings (e .made) t i bt .called-is s₁ (e .lengths) ∙ ap (λ (b : Bool). pick b (underTag s₁ t i) (s₁, turnedAway Unfit)) q)) heard)
+
+-- ---- what the event comes to
+
+-- the whole range is on the card
+abbrev pub Arrived : Task → Card → Type 0
+Arrived w card = (i : ℕ) → i < w .request .length → card (mappedTo w i) ≡ getD (w .new) i 0
+
+pub record Finished (w : Task) (c : Completion) : Type 0 where
+  pub buf : c .buf ≡ Back (w .request .buffer) (w .request .length)
+  pub tag : c .tag ≡ w .request .tag
+  pub outcome : pages (w .kind) ≡ false → c .outcome ≡ readTo (w .request .length)
+
+-- what the operation gets of the event
+abbrev pub getsOf : State → Event → ℕ → ℕ → List Completed
+getsOf s e t b = pick (isBrought (brought t (e .made))) (withBytes (bytesAt (next s e) b) (addedBy s e)) []
+
+pub data Came (w : Task) (s : State) (card : Card) (e : Event) : Type 0 where
+  still : (d : ℕ) → Open w (next s e) (cardBy s e card) d → getsOf s e (w .tag) (w .request .buffer) ≡ [] → Came w s card e
+  over : names (rowAt (next s e) (rowOf (w .tag))) (w .tag) ≡ false → Arrived w (cardBy s e card) → (c : Completion) → Finished w c → getsOf s e (w .tag) (w .request .buffer) ≡ (c, w .new ++ w .tail) ∷ [] → Came w s card e
+
+stage-live : (w : Task) (d : ℕ) (a : Awaits) → Stage w d a → isLive a ≡ true
+unfolding isLive
+stage-live w d a (piece e left) = ap isLive e
+stage-live w d a (flush t e page all long) = ap isLive e
+
+stage-most : (w : Task) (d : ℕ) (a : Awaits) → Stage w d a → d ≤ w .request .length
+stage-most w d a (piece e left) = omega (arith, left)
+stage-most w d a (flush t e page all long) = omega (arith, all)
+
+on-card-most : (w : Task) (d i : ℕ) → d ≤ w .request .length → i < onCard w d → i < w .request .length
+on-card-most w d i most = by-pick (pages (w .kind)) (λ (n : ℕ). i < n → i < w .request .length) (λ page lt. omega (arith, most, lt)) (λ reads lt. lt)
+
+-- all bytes are on the card when all are done
+pub on-card-all : (w : Task) (d i : ℕ) → d ≡ w .request .length → i < w .request .length → i < onCard w d
+on-card-all w d i all lt = by-pick (pages (w .kind)) (λ (n : ℕ). i < n) (λ page. omega (arith, all, lt)) (λ reads. lt)
+
+ticket-length : (w : Task) (t : WriteTicket) → t .start ≡ firstOf (w .kind) → t .end ≡ lastOf (w .kind) → t .end .0 - t .start .0 ≡ w .request .length
+ticket-length w t start end =
+    let a : t .start .0 ≡ w .request .offset .0 = ap (λ (p : Position). p .0) (start ∙ w .first) in
+    let z : t .end .0 ≡ w .request .offset .0 + w .request .length = ap (λ (p : Position). p .0) end ∙ w .last in
+    omega (arith, a, z)
+
+-- what a whole piece writes, of a write and of a read
+wrote-page : (g : Plan) (k : Kind) (sp : Split) (bytes : List ℕ) (x : Answer) (back : Bool) (flushes : ℕ) (card : Card) → pages k ≡ true → isWhole (pieceLength g k sp) x ≡ true
+    → wroteBy g (Piece k sp) bytes (some (answered x back flushes)) card ≡ pwrite card (place (g .map) (firstOf k .0 + sp .done)) (take (pieceLength g k sp) bytes)
+unfolding wroteBy takesWhole firstOf pages pick
+wrote-page g (Page a b) sp bytes x back flushes card page whole = ap (λ (t : Bool). pick t (pwrite card (place (g .map) (a .0 + sp .done)) (take (pieceLength g (Page a b) sp) bytes)) card) whole
+wrote-page g (Read a b) sp bytes x back flushes card page whole = absurd (not-both page refl)
+
+wrote-read : (g : Plan) (k : Kind) (sp : Split) (bytes : List ℕ) (v : Option Input) (card : Card) → pages k ≡ false → wroteBy g (Piece k sp) bytes v card ≡ card
+unfolding wroteBy pages
+wrote-read g (Page a b) sp bytes v card reads = absurd (not-both refl reads)
+wrote-read g (Read a b) sp bytes v card reads = refl
+
+module _ (w : Task) (s : State) (card : Card) (d : ℕ) (o : Open w s card d) (e : Event) (host : HostMay s (e .leaves)) (taken : TakenWhole s e (w .tag) card) (alone : Undisturbed s (w .tag) (w .request)) where
+  abbrev t : ℕ
+  t = w .tag
+
+  abbrev r : Row
+  r = rowAt s (rowOf (w .tag))
+
+  abbrev b : ℕ
+  b = w .request .buffer
+
+  abbrev left : State
+  left = leave s (e .leaves)
+
+  abbrev lies : ℕ → List ℕ
+  lies n = lying (w .new) (w .old) (w .tail) n
+
+  sound-left : Sound left
+  sound-left = leaves s (e .leaves) (o .sound) (host .count)
+
+  sound-next : Sound (next s e)
+  sound-next = keeps-next keeps s e (o .sound) (host .count)
+
+  map-left : regionAt left (w .request .handle) .map ≡ w .map
+  unfolding regionAt leave
+  map-left = o .map-is
+
+  map-next : regionAt (next s e) (w .request .handle) .map ≡ w .map
+  unfolding planOf
+  map-next = ap (λ (g : Plan). g .map) (next-plans s e (w .request .handle)) ∙ o .map-is
+
+  live : isLive (r .awaits) ≡ true
+  live = names-live r t (o .in-row .named)
+
+  in-buffers : r .buffer < s .settings .buffers
+  in-buffers = live-in-table s (o .sound) (rowOf t) live .buffer
+
+  -- the buffer as the host leaves it
+  bytes-left : drop (hostsOf w d) (bytesAt left b) ≡ drop (hostsOf w d) (lies d)
+  unfolding bytesAt leave
+  bytes-left =
+      (λ j. drop (sym (loose-is w s r (o .in-row .handle) (o .map-is) d (o .in-row .stage)) j) (bytesAt left (sym (o .in-row .buffer) j)))
+      ∙ left-alike s (o .sound) (e .leaves) host (rowOf t) live
+      ∙ (λ j. drop (loose-is w s r (o .in-row .handle) (o .map-is) d (o .in-row .stage) j) (bytesAt s (o .in-row .buffer j)))
+      ∙ o .bytes
+
+  -- ---- the operation stays as it stands
+
+  stays : rowAt (next s e) (rowOf t) ≡ r → bytesAt (next s e) b ≡ bytesAt left b → ((i : ℕ) → i < w .request .length → cardBy s e card (mappedTo w i) ≡ card (mappedTo w i)) → Open w (next s e) (cardBy s e card) d
+  stays row bytes same = record {
+    sound = sound-next;
+    in-row = subst (λ (x : Row). InRow w x d) (sym row) (o .in-row);
+    map-is = map-next;
+    bytes = ap (drop (hostsOf w d)) bytes ∙ bytes-left;
+    card-is = λ i lt. same i (on-card-most w d i (stage-most w d (r .awaits) (o .in-row .stage)) lt) ∙ o .card-is i lt;
+  }
+
+  -- an event for another
+  module _ (bt : brought t (e .made) ≡ none) where
+    other-tag : (i : Input) → brought (tagIn (e .made)) (e .made) ≡ some i → tagIn (e .made) ≢ t
+    other-tag i bu same = clash (let z : some i ≡ none = sym bu ∙ ap (λ (u : ℕ). brought u (e .made)) same ∙ bt in cc)
+
+    other-card : (i : ℕ) → i < w .request .length → cardBy s e card (mappedTo w i) ≡ card (mappedTo w i)
+    unfolding cardBy Undisturbed
+    other-card i lt = by-pick (isAway (replyTo s e)) (λ (after : Card). after y ≡ card y) (λ gone. refl) (λ heard. by-brought (brought u (e .made)) refl heard)
+      where
+        u : ℕ
+        u = tagIn (e .made)
+
+        y : ℕ
+        y = mappedTo w i
+
+        its : Row
+        its = rowAt s (rowOf u)
+
+        by-name : (j : Input) → brought u (e .made) ≡ some j → isAway (replyTo s e) ≡ false → (n : Bool) → names its u ≡ n → wroteBy (planAt s its) (its .awaits) (bytesAt left (its .buffer)) (some j) card y ≡ card y
+        by-name j q heard true here =
+            wrote-unless s (o .sound) (rowOf u) (bytesAt left (its .buffer)) (some j) card y
+            (λ writes mapped. alone (rowOf u) y i (other-row s (o .sound) t (o .in-row .named) u (other-tag j q) here) writes mapped lt (ap (λ (m : Map). place m (w .request .offset .0 + i)) (o .map-is)))
+        by-name j q heard false n = absurd (not-both (unnamed-away s e u j q n) heard)
+
+        by-brought : (v : Option Input) → brought u (e .made) ≡ v → isAway (replyTo s e) ≡ false → wroteBy (planAt s its) (its .awaits) (bytesAt left (its .buffer)) v card y ≡ card y
+        by-brought none q heard = ap (λ (after : Card). after y) (wrote-none (planAt s its) (its .awaits) (bytesAt left (its .buffer)) card)
+        by-brought (some j) q heard = by-name j q heard (names its u) refl
+
+    other-bytes : bytesAt (next s e) b ≡ bytesAt left b
+    other-bytes =
+        pool-others s e b sound-left (subst (λ (n : ℕ). n < s .settings .buffers) (o .in-row .buffer) in-buffers)
+        (λ i bu here same. other-row s (o .sound) t (o .in-row .named) (tagIn (e .made)) (other-tag i bu) here
+        (sole s (o .sound) (rowOf t) (rowOf (tagIn (e .made))) live (names-live (rowAt s (rowOf (tagIn (e .made)))) (tagIn (e .made)) here) (same ∙ sym (o .in-row .buffer))))
+
+    other-kept : rowAt (next s e) (rowOf t) ≡ r
+    unfolding next rowAt leave
+    other-kept = done-row left sound-left t (o .in-row .named) (e .lengths) (e .made) bt
+
+    pub came-other : Came w s card e
+    unfolding isBrought pick
+    came-other = still d (stays other-kept other-bytes other-card) (ap (λ (v : Option Input). pick (isBrought v) (withBytes (bytesAt (next s e) b) (addedBy s e)) []) bt)
+
+  -- ---- an event for it
+
+  module _ (i : Input) (bt : brought t (e .made) ≡ some i) where
+    gets-with : (added : List Completion) → addedBy s e ≡ added → (bytes : List ℕ) → bytesAt (next s e) b ≡ bytes → getsOf s e t b ≡ withBytes bytes added
+    unfolding isBrought pick
+    gets-with added q bytes z =
+        ap (λ (v : Option Input). pick (isBrought v) (withBytes (bytesAt (next s e) b) (addedBy s e)) []) bt ∙ (λ j. withBytes (z j) (q j))
+
+    gets-none : next s e .ready ≡ s .ready → getsOf s e t b ≡ []
+    unfolding withBytes addedBy
+    gets-none q = gets-with [] (ap (drop (length (s .ready))) q ∙ drop-length (s .ready)) (bytesAt (next s e) b) refl
+
+    pub came-away : isAway (replyTo s e) ≡ true → Came w s card e
+    unfolding rowAt leave
+    came-away gone =
+        let same = away-same s e gone in
+        still d (stays (ap (λ (z : State). rowAt z (rowOf t)) same) (ap (λ (z : State). bytesAt z b) same) (λ j lt. ap (λ (after : Card). after (mappedTo w j)) (away-card s e card gone))) (gets-none (ap (λ (z : State). z .ready) same))
+
+    module _ (heard : isAway (replyTo s e) ≡ false) where
+      abbrev f : Fate
+      f = fateOf left r i
+
+      next-is : (g : Fate) → f ≡ g → next s e ≡ settled left t r g .0
+      unfolding next
+      next-is g q = ap (λ (z : State × Reply). z .0) (heard-settles s e t i bt (o .in-row .named) heard) ∙ ap (λ (h : Fate). settled left t r h .0) q
+
+      not-away : (x : Refusal) → f ≡ away x → ⊥
+      unfolding replyTo settled isAway
+      not-away x q = not-both (ap (λ (z : State × Reply). isAway (z .1)) (heard-settles s e t i bt (o .in-row .named) heard ∙ ap (settled left t r) q)) heard
+
+      card-own : cardBy s e card ≡ wroteBy (planAt s r) (r .awaits) (bytesAt left (r .buffer)) (some i) card
+      unfolding cardBy pick
+      card-own =
+          ap (λ (c : Bool). pick c card (writes (tagIn (e .made)) (brought (tagIn (e .made)) (e .made)))) heard
+          ∙ ap (λ (u : ℕ). writes u (brought u (e .made))) (brings (e .made) t i bt .tag)
+          ∙ ap (writes t) bt
+        where
+          writes : ℕ → Option Input → Card
+          writes u v = wroteBy (planAt s (rowAt s (rowOf u))) (rowAt s (rowOf u) .awaits) (bytesAt left (rowAt s (rowOf u) .buffer)) v card
+
+      in-pool : r .buffer < left .settings .buffers
+      unfolding leave
+      in-pool = in-buffers
+
+      in-rows : rowOf t < length (left .rows)
+      unfolding leave
+      in-rows = live-in s (rowOf t) live
+
+      fits : (g : Fate) → f ≡ g → FateFits left r g
+      fits g q = subst (FateFits left r) q (fate-fits left r i)
+
+      -- it goes on
+      goes-on : (a : Awaits) (bytes : List ℕ) (d′ : ℕ) → f ≡ awaits a bytes → Stage w d′ a → drop (hostsOf w d′) bytes ≡ drop (hostsOf w d′) (lies d′)
+          → ((j : ℕ) → j < onCard w d′ → cardBy s e card (mappedTo w j) ≡ getD (w .new) j 0) → Came w s card e
+      unfolding settled going Fitting awaitsNow leave
+      goes-on a bytes d′ q stage held same =
+          let z = next-is (awaits a bytes) q in
+          let to = going left (rowOf t) r a bytes in
+          let ch : Changed left to (rowOf t) (r .buffer) (awaitsNow r a) bytes = record { settings = refl; regions = refl; rows = refl; pool = refl } in
+          let long : length bytes ≡ left .settings .capacity = fits (awaits a bytes) q .1 ∙ bytes-length left sound-left (r .buffer) in-pool in
+          let row : rowAt (next s e) (rowOf t) ≡ awaitsNow r a = ap (λ (y : State). rowAt y (rowOf t)) z ∙ row-here left to (rowOf t) (r .buffer) (awaitsNow r a) bytes ch in-rows in
+          let there : bytesAt (next s e) b ≡ bytes = (λ j. bytesAt (z j) (sym (o .in-row .buffer) j)) ∙ bytes-here left to (rowOf t) (r .buffer) (awaitsNow r a) bytes ch sound-left in-pool long in
+          still d′
+          (record {
+            sound = sound-next;
+            in-row = subst (λ (x : Row). InRow w x d′) (sym row)
+                (record {
+                  named = names-by (awaitsNow r a) t (stage-live w d′ a stage) (names-generation r t (o .in-row .named));
+                  handle = o .in-row .handle;
+                  buffer = o .in-row .buffer;
+                  tag = o .in-row .tag;
+                  stage = stage;
+                });
+            map-is = map-next;
+            bytes = ap (drop (hostsOf w d′)) there ∙ held;
+            card-is = same;
+          })
+          (gets-none (ap (λ (y : State). y .ready) z))
+
+      -- it completes
+      ends-with : (x : Outcome) (n : ℕ) (bytes : List ℕ) → f ≡ ends x (Back (r .buffer) n) bytes none → n ≡ w .request .length → bytes ≡ w .new ++ w .tail
+          → (pages (w .kind) ≡ false → x ≡ readTo (w .request .length)) → Arrived w (cardBy s e card) → Came w s card e
+      unfolding settled freeing Fitting completionOf withBytes addedBy names leave
+      ends-with x n bytes q all new outcome arrived =
+          let to = settled left t r (ends x (Back (r .buffer) n) bytes none) .0 in
+          let z = next-is (ends x (Back (r .buffer) n) bytes none) q in
+          let gone = freed (raised (r .generation)) in
+          let c = completionOf r x (Back (r .buffer) n) in
+          let ch : Changed left to (rowOf t) (r .buffer) gone bytes = record { settings = refl; regions = refl; rows = refl; pool = refl } in
+          let long : length bytes ≡ left .settings .capacity = fits (ends x (Back (r .buffer) n) bytes none) q .1 ∙ bytes-length left sound-left (r .buffer) in-pool in
+          let row : rowAt (next s e) (rowOf t) ≡ gone = ap (λ (y : State). rowAt y (rowOf t)) z ∙ row-here left to (rowOf t) (r .buffer) gone bytes ch in-rows in
+          let there : bytesAt (next s e) b ≡ bytes = (λ j. bytesAt (z j) (sym (o .in-row .buffer) j)) ∙ bytes-here left to (rowOf t) (r .buffer) gone bytes ch sound-left in-pool long in
+          over (ap (λ (y : Row). names y t) row ∙ freed-unnamed (raised (r .generation))) arrived c
+          (record { buf = (λ j. Back (o .in-row .buffer j) (all j)); tag = o .in-row .tag; outcome = outcome })
+          (gets-with (c ∷ []) (ap (λ (y : State). drop (length (s .ready)) (y .ready)) z ∙ drop-append-seam (s .ready) (c ∷ [])) (w .new ++ w .tail) (there ∙ new))
+        where
+          freed-unnamed : (g : ℕ) → names (freed g) t ≡ false
+          freed-unnamed g = unfold freed isLive in refl
+
+      -- ---- a piece, taken whole
+
+      module _ (at : r .awaits ≡ Piece (w .kind) (splitOf w d)) (more : d < w .request .length) (x : Answer) (back : Bool) (flushes : ℕ) (is : i ≡ answered x back flushes) where
+        abbrev n : ℕ
+        n = sizeOf w d
+
+        abbrev bytes : List ℕ
+        bytes = bytesAt left b
+
+        is-whole : (isWhole (pieceLength (planAt s r) (w .kind) (splitOf w d)) x ≡ true) × (back ≡ true)
+        unfolding TakenWhole WholeTo
+        is-whole = subst₂ (WholeTo s r) at is (taken i bt heard .0)
+
+        new-is : (take n bytes ≡ take n (drop d (w .new))) × (drop n bytes ≡ drop n (lies d))
+        unfolding TakenWhole
+        new-is = is-new w left r d (o .in-row) map-left at more card bytes-left (o .card-is) (taken i bt heard .1)
+
+        its-whole : Whole r (w .kind) (splitOf w d) n bytes f
+        unfolding fateOf rules answerRules planAt regionAt leave
+        its-whole =
+            let g = planAt s r in
+            let forced = regionAt s (r .handle) .forced in
+            let now = bytesAt left (r .buffer) in
+            let fate : f ≡ answerRules (s .settings) g forced (s .poison) r now x back flushes (Piece (w .kind) (splitOf w d)) =
+            ap (fateOf left r) is ∙ ap (answerRules (s .settings) g forced (s .poison) r now x back flushes) at in
+            subst₂ (λ (m : ℕ) (l : List ℕ). Whole r (w .kind) (splitOf w d) m l f) (piece-size w s r (o .in-row .handle) (o .map-is) d) (ap (bytesAt left) (o .in-row .buffer))
+            (subst (Whole r (w .kind) (splitOf w d) (pieceLength g (w .kind) (splitOf w d)) now) (sym fate)
+            (answer-whole (s .settings) g forced (s .poison) r (splitOf w d) now (w .kind) x back flushes more (is-whole .0) (is-whole .1)))
+
+        -- on the card
+        card-after : (j : ℕ) → j < onCard w (d + n) → cardBy s e card (mappedTo w j) ≡ getD (w .new) j 0
+        unfolding pick
+        card-after = by-kind (true-or-false (pages (w .kind)))
+          where
+            came-to : cardBy s e card ≡ wroteBy (planAt s r) (Piece (w .kind) (splitOf w d)) (bytesAt left b) (some (answered x back flushes)) card
+            came-to = card-own ∙ (λ j. wroteBy (planAt s r) (at j) (bytesAt left (o .in-row .buffer j)) (some (is j)) card)
+
+            by-kind : (pages (w .kind) ≡ true) ⊎ (pages (w .kind) ≡ false) → (j : ℕ) → j < onCard w (d + n) → cardBy s e card (mappedTo w j) ≡ getD (w .new) j 0
+            by-kind (inl page) j lt =
+                ap (λ (after : Card). after (mappedTo w j))
+                (came-to ∙ wrote-page (planAt s r) (w .kind) (splitOf w d) (bytesAt left b) x back flushes card page (is-whole .0)
+                ∙ (λ k. pwrite card (piece-place w s r (o .in-row .handle) (o .map-is) d k) (take (piece-size w s r (o .in-row .handle) (o .map-is) d k) (bytesAt left b)))
+                ∙ ap (pwrite card (mappedTo w d)) (new-is .0))
+                ∙ piece-written (mappedTo w) (w .new) d n (let z = w .long-new in let y = piece-ends w d more in omega (arith, z, y)) (consecutive w d more) card
+                (λ k l lk ll. w .distinct k l (let z = w .long-new in omega (arith, z, lk)) (let z = w .long-new in omega (arith, z, ll)))
+                (λ k lk. o .card-is k (rw page lk)) j (rw page at lt)
+            by-kind (inr reads) j lt =
+                ap (λ (after : Card). after (mappedTo w j)) (came-to ∙ wrote-read (planAt s r) (w .kind) (splitOf w d) (bytesAt left b) (some (answered x back flushes)) card reads)
+                ∙ o .card-is j (rw reads (rw reads at lt))
+
+        came-whole : Whole r (w .kind) (splitOf w d) n bytes f → Came w s card e
+        unfolding splitAfter pick
+        came-whole (next-piece lt q) =
+            goes-on _ _ (d + n) q (piece refl lt)
+            (ap (drop (hostsOf w (d + n))) (turned-on (w .new) (w .old) (w .tail) (w .request .length) (w .long-new) (w .long-old) d n (piece-ends w d more) bytes (new-is .0) (new-is .1))) card-after
+        came-whole (its-flush page all tk start end q) =
+            goes-on _ _ (w .request .length) q (flush tk refl page refl (ticket-length w tk start end))
+            (ap (drop (hostsOf w (w .request .length)))
+            (turned-last (w .new) (w .old) (w .tail) (w .request .length) (w .long-new) (w .long-old) d n (piece-ends w d more) bytes (new-is .0) (new-is .1) all
+            ∙ sym (lying-last (w .new) (w .old) (w .tail) (w .request .length) (w .long-new) (w .long-old))))
+            (subst (λ (m : ℕ). (j : ℕ) → j < onCard w m → cardBy s e card (mappedTo w j) ≡ getD (w .new) j 0) all card-after)
+        came-whole (completes all y outcome q) =
+            ends-with y (w .request .length) _ q refl
+            (turned-last (w .new) (w .old) (w .tail) (w .request .length) (w .long-new) (w .long-old) d n (piece-ends w d more) bytes (new-is .0) (new-is .1) all) outcome
+            (λ j lt. card-after j (on-card-all w (d + n) j all lt))
+
+        came-piece : Came w s card e
+        came-piece = came-whole its-whole
+
+      -- ---- a flush result
+
+      module _ (tk : WriteTicket) (at : r .awaits ≡ Flush tk) (page : pages (w .kind) ≡ true) (all : d ≡ w .request .length) (long : tk .end .0 - tk .start .0 ≡ w .request .length) (result : Flushed) (is : i ≡ flushed result) where
+        came-flush : Came w s card e
+        unfolding fateOf rules flushRules flushEnds wroteBy pick
+        came-flush =
+            let held : bytesAt left b ≡ lies d = rw page at bytes-left in
+            ends-with (flushOutcome (left .settings) tk result) (tk .end .0 - tk .start .0) (bytesAt left (r .buffer))
+            (ap (fateOf left r) is ∙ ap (flushRules (left .settings) r (bytesAt left (r .buffer)) result) at) long
+            (ap (bytesAt left) (o .in-row .buffer) ∙ held ∙ ap lies all ∙ lying-last (w .new) (w .old) (w .tail) (w .request .length) (w .long-new) (w .long-old))
+            (λ reads. absurd (not-both page reads))
+            (λ j lt. ap (λ (after : Card). after (mappedTo w j)) (card-own ∙ ap (λ (a : Awaits). wroteBy (planAt s r) a (bytesAt left (r .buffer)) (some i) card) at)
+            ∙ o .card-is j (on-card-all w d j all lt))
+
+      came-heard : Stage w d (r .awaits) → (v : Input) → i ≡ v → Came w s card e
+      unfolding fateOf rules answerRules flushRules
+      came-heard (piece at more) (answered x back flushes) is = came-piece at more x back flushes is
+      came-heard (piece at more) (flushed result) is = absurd (not-away NotAwaited (ap (fateOf left r) is ∙ ap (flushRules (left .settings) r (bytesAt left (r .buffer)) result) at))
+      came-heard (flush tk at page all long) (answered x back flushes) is =
+          absurd (not-away NotAwaited (ap (fateOf left r) is ∙ ap (answerRules (left .settings) (planOf (regionAt left (r .handle))) (regionAt left (r .handle) .forced) (left .poison) r (bytesAt left (r .buffer)) x back flushes) at))
+      came-heard (flush tk at page all long) (flushed result) is = came-flush tk at page all long result is
+
+    came-own : (b : Bool) → isAway (replyTo s e) ≡ b → Came w s card e
+    came-own true gone = came-away gone
+    came-own false heard = came-heard heard (o .in-row .stage) i refl
+
+  pub came : Came w s card e
+  came = by-brought (brought t (e .made)) refl
+    where
+      by-brought : (v : Option Input) → brought t (e .made) ≡ v → Came w s card e
+      by-brought none q = came-other q
+      by-brought (some i) q = came-own i q (isAway (replyTo s e)) refl

@@ -1,0 +1,27 @@
+-- Demands 2 and 3: the operation alone, the lists of calls, the card, and examples.
+pub mod ProjectionSet
+pub mod ProjectionRows
+pub mod ProjectionFed
+pub mod ProjectionAccepted
+pub mod ProjectionCalls
+pub mod ProjectionReached
+pub mod ListsBrought
+pub mod ProjectionSteps
+pub mod Projection
+pub mod QuietCourse
+pub mod ListsCame
+pub mod ListsRows
+pub mod ListsWalk
+pub mod QueueOrder
+pub mod QuietLists
+pub mod CardLists
+pub mod Demand3
+pub mod Demand3Example
+pub mod Demand2Others
+pub mod Demand2Bytes
+pub mod Demand2Task
+pub mod Demand2Event
+pub mod Demand2Walk
+pub mod Demand2Begun
+pub mod Demand2
+pub mod Demand2Example

@@ -1,0 +1,2 @@
+-- Proofs about the definitions of specs/.
+pub mod Words

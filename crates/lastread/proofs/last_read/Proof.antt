@@ -1,0 +1,39 @@
+-- `lastread::last_read` meets its contract: its parts are what the callees ensure.
+use mathlib.Core.Path.{sym, ap₂, _∙_}
+use Rattle.step.specs.Rules.{bufferAs, rangeOf, firstOf, lastOf, lastPiece}
+use Rattle.settle.specs.Finished.{causeIs, fateBy, planWith}
+use Rattle.settle.proofs.Settling.{same-end}
+use borrow.Author.Needs.{needs}
+use Rattle.lastread.proofs.last_read.Statement.{statement}
+use Rattle.lastread.proofs.last_read.Tie as tie
+
+read-outcome-requires : tie.Need-read-outcome-requires
+read-outcome-requires c κs = search needs
+
+read-length-requires : tie.Need-read-length-requires
+read-length-requires c κs = search needs
+
+buffer-as-requires : tie.Need-buffer-as-requires
+buffer-as-requires c κs = search needs
+
+turn-back-requires : tie.Need-turn-back-requires
+turn-back-requires c κs = search needs
+
+returns : tie.Need-returns
+unfolding fateBy causeIs planWith rangeOf firstOf lastOf lastPiece
+returns c =
+    let back = c .before .before .before .before .args .back in
+    λ o m first row flushes own fits bytes.
+    same-end (c .before .before .before .read-outcome .ensures fits)
+    (c .before .buffer-as .ensures ∙ ap₂ (bufferAs back) (sym own) (c .before .before .read-length .ensures fits))
+    (c .turn-back .ensures bytes)
+
+pub last-read-spec : {M : Type 1} → statement M
+last-read-spec =
+    tie.close
+    (tie.spec
+    read-outcome-requires
+    read-length-requires
+    buffer-as-requires
+    turn-back-requires
+    returns)

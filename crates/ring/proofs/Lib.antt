@@ -1,0 +1,3 @@
+-- Proofs about the definitions of specs/.
+pub mod Places
+pub mod Laws

@@ -1,0 +1,24 @@
+-- `start::durable_as` meets its contract: each arm knows which kind it is, and there the definition computes.
+use mathlib.Core.Path.{sym, ap}
+use Rattle.model.specs.declared.Kind.{Kind}
+use Rattle.step.specs.Step.{durableAs}
+use borrow.Author.Needs.{needs}
+use Rattle.start.proofs.durable_as.Statement.{statement}
+use Rattle.start.proofs.durable_as.Tie as tie
+
+enum-told : tie.Need-enum-told
+enum-told c = search needs
+
+enum-told-2 : tie.Need-enum-told-2
+enum-told-2 c = search needs
+
+returns : tie.Need-returns
+unfolding durableAs
+returns c = sym (ap (λ (k : Kind). durableAs k (c .before .before .args .durable)) (c .enum-told .given .1))
+
+returns-2 : tie.Need-returns-2
+unfolding durableAs
+returns-2 c = sym (ap (λ (k : Kind). durableAs k (c .before .before .args .durable)) (c .enum-told2 .given .1))
+
+pub durable-as-spec : {M : Type 1} → statement M
+durable-as-spec = tie.close (tie.spec enum-told enum-told-2 returns returns-2)
