@@ -18,9 +18,9 @@ pub use platform::{
 };
 
 pub mod card;
-//pub mod driver;
+pub mod driver;
 //pub mod drawing;
-//pub mod lines;
-//pub mod opening;
-//pub mod replies;
-//pub mod run;
+pub mod lines;
+pub mod opening;
+pub mod replies;
+pub mod run;
