@@ -85,13 +85,18 @@ impl Driver {
     }
 
     /// The rows that await a flush result.
-    pub fn flushing(&self) -> impl Iterator<Item = u64> {
-        self.flushing.iter().copied()
+    pub fn flushing(&self) -> Vec<u64> {
+        self.flushing.iter().copied().collect()
     }
 
     /// Whether the host holds a buffer.
     pub fn holds(&self, buffer: u64) -> bool {
         self.held.get(buffer as usize).is_some_and(Option::is_some)
+    }
+
+    /// Whether a piece was refused whose refusal has not had its line.
+    pub fn refusal_pending(&self) -> bool {
+        self.refused.is_some()
     }
 
     /// Gives a free row another generation (a figure of document 01 that no trace reaches).

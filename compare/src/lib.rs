@@ -19,7 +19,7 @@ pub use platform::{
 
 pub mod card;
 pub mod driver;
-//pub mod drawing;
+pub mod drawing;
 pub mod lines;
 pub mod opening;
 pub mod replies;
