@@ -6,18 +6,44 @@ use std::path::{Path, PathBuf};
 
 /// The engine's modules, by the path of their file under the engine's src.
 const ENGINE: &[&str] = &[
-    "completion.rs", "domain/mod.rs", "exec.rs", "flusher.rs", "frontier.rs", "io.rs", "layout.rs", "mapped.rs",
-    "optable.rs", "queue_core.rs", "region.rs", "regionmap.rs", "store.rs", "submitter/mod.rs",
+    "completion.rs",
+    "domain/mod.rs",
+    "exec.rs",
+    "flusher.rs",
+    "frontier.rs",
+    "io.rs",
+    "layout.rs",
+    "mapped.rs",
+    "optable.rs",
+    "queue_core.rs",
+    "region.rs",
+    "regionmap.rs",
+    "store.rs",
+    "submitter/mod.rs",
 ];
 
 /// Engine files that the others import, and that a stand-in replaces where the folder lacks them.
 const MISSING: &[&str] = &[
-    "batch.rs", "gate.rs", "lifecycle.rs", "options.rs", "receipt.rs", "report.rs", "scan.rs", "settle.rs",
-    "slot_handle.rs", "slots.rs", "space.rs", "stats.rs", "submitter/durable.rs", "sync.rs", "v2.rs",
+    "batch.rs",
+    "gate.rs",
+    "lifecycle.rs",
+    "options.rs",
+    "receipt.rs",
+    "report.rs",
+    "scan.rs",
+    "settle.rs",
+    "slot_handle.rs",
+    "slots.rs",
+    "space.rs",
+    "stats.rs",
+    "submitter/durable.rs",
+    "sync.rs",
+    "v2.rs",
 ];
 
 /// Crates that are missing whole: their modules stand at the root, which bears the crates' names.
-const CORE: &[&str] = &["align.rs", "class.rs", "decide.rs", "errno.rs", "error.rs", "evidence.rs", "id.rs", "observe.rs"];
+const CORE: &[&str] =
+    &["align.rs", "class.rs", "decide.rs", "errno.rs", "error.rs", "evidence.rs", "id.rs", "observe.rs"];
 const FORMAT: &[&str] = &["footprint.rs", "meta.rs", "meta2.rs", "slot.rs"];
 
 /// Reads a file, or stops the build with its name.

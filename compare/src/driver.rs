@@ -49,7 +49,7 @@ pub struct Driver {
     accepted: u64,
     /// The tag of a refused piece and the reply its line gets.
     refused: Option<(u64, String)>,
-    /// Whether answers that document 01 turns away by 14 to 16 go to the Rust all the same.
+    /// Whether the Rust also gets answers that document 01 turns away by 14 to 16, and runs that continue.
     beyond: bool,
 }
 
@@ -59,7 +59,7 @@ impl Driver {
         if !opening.keeps_rules() {
             return Err(Outside("the opening breaks a rule (13)"));
         }
-        if opening.regions.iter().any(|r| r.continues()) {
+        if opening.regions.iter().any(|r| r.continues()) && !beyond {
             return Err(Outside("a run that continues the one before on the card is joined to it"));
         }
         let (store, regions) = build(&opening);
@@ -212,8 +212,9 @@ impl Driver {
         }
         let own = &self.opening.regions[place.handle as usize];
         let named = place.volume == self.opening.open.volume && place.region == own.id;
+        let position = named && place.generation == own.generation;
         let before = matches!(cause, Some(NotWrittenCause::ForeignBuffer | NotWrittenCause::QueueFull))
-            || !s.write && !(named && place.generation == own.generation);
+            || !(s.write || position);
         if self.accepted >= self.opening.open.lifetime && !before {
             return Err(Outside("the lifetime is spent (12)"));
         }

@@ -13,13 +13,13 @@ include!(concat!(env!("OUT_DIR"), "/tree.rs"));
 pub use buf::{BufPool, CachePadded, ClassSpec, IoBuf, PoolConfig, WaitWord};
 pub use options::RegionOptions;
 pub use platform::{
-    Completion, CompletionBuf, FileMode, FileName, IoInterface, IoOp, IoPath, LinuxTier, OsError, Owner,
-    Platform, Queue, QueueConfig, RangeState, RawResult, Rejected, ReleaseHow, Wake,
+    Completion, CompletionBuf, FileMode, FileName, IoInterface, IoOp, IoPath, LinuxTier, OsError, Owner, Platform,
+    Queue, QueueConfig, RangeState, RawResult, Rejected, ReleaseHow, Wake,
 };
 
 pub mod card;
-pub mod driver;
 pub mod drawing;
+pub mod driver;
 pub mod lines;
 pub mod opening;
 pub mod replies;

@@ -74,7 +74,8 @@ fn step(state: &mut State, line: &Line, rest: &[Line], beyond: bool) -> Result<O
     }
 }
 
-/// Runs a trace. With `beyond`, answers that document 01 turns away by 14 to 16 go to the Rust as they are.
+/// Runs a trace. With `beyond`, answers that document 01 turns away by 14 to 16, and runs that continue on the card, go
+/// to the Rust as they are.
 pub fn run(input: &[u8], beyond: bool) -> Run {
     let lines = cut(input);
     let mut state = State::Before;

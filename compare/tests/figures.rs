@@ -46,10 +46,7 @@ fn outside_the_domain_is_said() {
     assert_eq!(last("w 0 512 512 0 70\nw 0 0 512 0 71\n"), "outside 5: the host does not hold the buffer (11)");
     assert_eq!(last("len\n"), "outside 4: another length of row memory (13)");
     assert_eq!(last("gate 1 0\n"), "outside 4: an unknown handle");
-    assert_eq!(
-        last("w 0 512 512 0 70\nmark\nA 0 0 1 q\n"),
-        "outside 6: a refusal that does not follow its piece"
-    );
+    assert_eq!(last("w 0 512 512 0 70\nmark\nA 0 0 1 q\n"), "outside 6: a refusal that does not follow its piece");
 }
 
 #[test]
@@ -83,5 +80,8 @@ fn lines_of_another_form_are_bad() {
     assert_eq!(read(&[b'1'; 5000]), Line::Bad);
     let text = run(b"t\nopen 2 512 3 2048 1000 16384 0 0 1 0 0 0\nopen 1\nt", false).text();
     assert_eq!(text, "bad 1\nbad 3\nbad 4\n");
-    assert_eq!(replies("fill 3 0 1 0\nw 0 0 512 0 1\nfill 0 0 1 0\nsum 0 1 2048\n", false), "bad 4\npiece 0 1024 512 0\nbad 6\nbad 7\n");
+    assert_eq!(
+        replies("fill 3 0 1 0\nw 0 0 512 0 1\nfill 0 0 1 0\nsum 0 1 2048\n", false),
+        "bad 4\npiece 0 1024 512 0\nbad 6\nbad 7\n"
+    );
 }

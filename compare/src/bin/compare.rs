@@ -44,7 +44,10 @@ fn one(program: &Path, seed: u64, kept: &Path) -> Result<usize, String> {
         None => Ok(rust.replies.len()),
         Some((number, ours, theirs)) => {
             let call = text.lines().nth(number.saturating_sub(1)).unwrap_or_default();
-            Err(format!("seed {seed}, line {number}: {call}\n  Rust:  {ours}\n  other: {theirs}\n  kept:  {}", kept.display()))
+            Err(format!(
+                "seed {seed}, line {number}: {call}\n  Rust:  {ours}\n  other: {theirs}\n  kept:  {}",
+                kept.display()
+            ))
         }
     }
 }
