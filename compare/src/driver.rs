@@ -192,7 +192,9 @@ impl Driver {
         };
         self.queue_mut().refusal = None;
         let seen = self.queue_mut().take_seen();
-        self.inside(s, place, held, &result)?;
+        // A piece that was issued went past every question.
+        let away = result.as_ref().err().filter(|_| seen.is_none());
+        self.inside(s, place, held, away)?;
         match (result, seen) {
             (Ok(()), Some(piece)) => Ok(self.issued(piece)),
             (Err(rejected), Some(piece)) => self.refused_first(piece, rejected),
@@ -202,9 +204,9 @@ impl Driver {
     }
 
     /// Whether the reply is one that document 01 gives without its numbers 11 and 12.
-    fn inside(&self, s: &Submission, place: Place, held: bool, result: &Result<(), Rejected>) -> Result<(), Stop> {
-        let cause = match result {
-            Err(Rejected { error: Error::NotWritten { cause, .. }, .. }) => Some(*cause),
+    fn inside(&self, s: &Submission, place: Place, held: bool, away: Option<&Rejected>) -> Result<(), Stop> {
+        let cause = match away {
+            Some(Rejected { error: Error::NotWritten { cause, .. }, .. }) => Some(*cause),
             _ => None,
         };
         if cause == Some(NotWrittenCause::ForeignBuffer) && self.in_pool(s) && !held {

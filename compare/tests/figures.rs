@@ -61,6 +61,8 @@ fn openings_that_the_rust_cannot_hold_are_said() {
     let text = start(&calls);
     assert_eq!(text.lines().nth(2), Some("no 2 region 7"));
     assert_eq!(text.lines().nth(3), Some("outside 6: the lifetime is spent (12)"));
+    let refused = format!("{spent}w 0 0 512 0 70\nw 1 0 512 0 71\nA 1 0 1 q\n");
+    assert_eq!(start(&refused).lines().nth(2), Some("outside 5: the lifetime is spent (12)"));
 }
 
 #[test]
