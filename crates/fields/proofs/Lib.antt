@@ -1,3 +1,4 @@
 -- What the proofs of this crate share.
 pub mod Fields
 pub mod Numbers
+pub mod Alike

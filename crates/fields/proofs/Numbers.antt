@@ -1,15 +1,15 @@
 -- When a field is a number: exactly where it has 1 to 20 bytes, all digits, whose value is below 2^64; and how value and digits go from a place on.
-use mathlib.Core.Path.{_≡_}
+use mathlib.Core.Path.{_≡_, refl, ap}
 use mathlib.Core.List.{List, [], _∷_}
 use mathlib.Core.Bool.{true, false, and-false}
-use Prim.Native.Nat.{ℕ, _+_, _-_, _*_, _^_, _≤_, _<_}
+use Prim.Native.Nat.{ℕ, zero, suc, _+_, _-_, _*_, _^_, _≤_, _<_}
 use native.Mathlib.Omega.{arith}
 use lib.ListN.{length, drop, getD, drop-of-length-le}
 use lib.Dec.{leb}
 use borrow.Author.Tests.{leb-true, ltb-true, le-leb, lt-leb, lt-ltb}
 use Rattle.layout.specs.Pick.{pick}
 use Rattle.layout.proofs.Tests.{refused, and-left, and-right}
-use Rattle.fields.specs.Fields.{digit, allDigits, value, isNumber, numberIn}
+use Rattle.fields.specs.Fields.{field, digit, allDigits, value, isNumber, numberIn, areNumbers}
 use Rattle.fields.proofs.Fields.{from-on}
 
 -- what a number is
@@ -72,3 +72,19 @@ module _ (l : List ℕ) (i : ℕ) (h : i < length l) where
   pub digits-above : 57 < getD l i 0 → allDigits (drop i l) ≡ false
   unfolding allDigits digit
   digits-above a = rw (from-on l i h, lt-leb (getD l i 0) 57 a, and-false (leb 48 (getD l i 0)))
+
+-- the fields up to the k-th are numbers where the k-th is one and those before it are
+pub numbers-on : (k : ℕ) (cs : List ℕ) → 0 < k → numberIn (field k cs) .is ≡ true → areNumbers k cs ≡ areNumbers (k - 1) cs
+unfolding areNumbers numberIn
+numbers-on zero cs some t = absurd (omega arith)
+numbers-on (suc k) cs some t = let down : k ≡ suc k - 1 = omega arith in rw t (ap (λ (n : ℕ). areNumbers n cs) down)
+
+pub numbers-stop : (k : ℕ) (cs : List ℕ) → 0 < k → numberIn (field k cs) .is ≡ false → areNumbers k cs ≡ false
+unfolding areNumbers numberIn
+numbers-stop zero cs some f = absurd (omega arith)
+numbers-stop (suc k) cs some f = rw f
+
+pub numbers-none : (k : ℕ) (cs : List ℕ) → k ≤ 0 → areNumbers k cs ≡ true
+unfolding areNumbers
+numbers-none zero cs h = refl
+numbers-none (suc k) cs h = absurd (omega arith)

@@ -1,5 +1,5 @@
 -- The fields of a line: "Fields are decimal digits (1 to 20 of them, no sign) separated by one space"; "a number over 2^64 − 1" is none.
-use mathlib.Core.Bool.{Bool, true, _&&_}
+use mathlib.Core.Bool.{Bool, true, false, _&&_}
 use mathlib.Core.List.{List, [], _∷_}
 use Prim.Native.Nat.{ℕ, zero, suc, _+_, _-_, _*_, _^_}
 use lib.ListN.{length}
@@ -36,3 +36,27 @@ isNumber f = leb 1 (length f) && (leb (length f) 20 && (allDigits f && ltb (valu
 
 unfoldable pub numberIn : List ℕ → Field
 numberIn f = record { is = isNumber f; value = pick (isNumber f) (value 0 f) 0 }
+
+-- whether two lists hold the same bytes
+unfoldable pub eqBytes : List ℕ → List ℕ → Bool
+eqBytes [] [] = true
+eqBytes [] (d ∷ ds) = false
+eqBytes (c ∷ cs) [] = false
+eqBytes (c ∷ cs) (d ∷ ds) = eqb c d && eqBytes cs ds
+
+-- whether the k-th field is a word
+unfoldable pub wordIn : ℕ → List ℕ → List ℕ → Bool
+wordIn k word cs = eqBytes (field k cs) word
+
+-- the number in the k-th field, 0 where it holds none
+unfoldable pub num : ℕ → List ℕ → ℕ
+num k cs = numberIn (field k cs) .value
+
+-- whether the fields behind the first are numbers, up to the n-th
+unfoldable pub areNumbers : ℕ → List ℕ → Bool
+areNumbers zero cs = true
+areNumbers (suc n) cs = isNumber (field (suc n) cs) && areNumbers n cs
+
+-- "Flags are 0 or 1."
+unfoldable pub isFlag : ℕ → List ℕ → Bool
+isFlag k cs = isNumber (field k cs) && leb (num k cs) 1

@@ -4,6 +4,14 @@ ghost use Prim.Native.Nat.{_+_, _≤_};
 ghost use lib.ListN.{length, getD, drop};
 ghost use Rattle.fields.specs.Fields.{spaces, field, numberIn};
 
+mod words;
+
+pub use words::are_numbers;
+pub use words::is_flag;
+pub use words::is_number;
+pub use words::is_word;
+pub use words::value_in;
+
 // What a field holds: whether it is a number, and which (0 where it is none).
 pub struct Field {
     pub is: bool,

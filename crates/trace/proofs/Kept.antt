@@ -43,10 +43,10 @@ module _ {r : Reader} {line bytes : List ℕ} (k : Kept r line bytes) where
 
   -- a longer line is read by its first byte
   module _ (long : r .long ≡ true) where
-    past : 4096 < length bytes
+    pub past : 4096 < length bytes
     past = ltb-true 4096 (length bytes) (sym (k .longer) ∙ long)
 
-    first : getD line 0 0 ≡ getD bytes 0 0
+    pub first : getD line 0 0 ≡ getD bytes 0 0
     first =
         let n = k .count in
         let p = past in
@@ -58,7 +58,7 @@ module _ {r : Reader} {line bytes : List ℕ} (k : Kept r line bytes) where
 
   -- another is kept whole
   module _ (whole : r .long ≡ false) where
-    within : length bytes ≤ 4096
+    pub within : length bytes ≤ 4096
     within = ltb-false 4096 (length bytes) (sym (k .longer) ∙ whole)
 
     pub read-whole : lineIn (take (r .kept) line) ≡ lineRead bytes

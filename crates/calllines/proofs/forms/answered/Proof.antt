@@ -1,0 +1,47 @@
+-- `calllines::answered` meets its contract: its parts are those of the definitions.
+use Rattle.calllines.specs.Said.{isAnswered, answerIn}
+use borrow.Author.Needs.{needs}
+use Rattle.calllines.proofs.forms.answered.Statement.{statement}
+use Rattle.calllines.proofs.forms.answered.Tie as tie
+
+value-in-requires : tie.Need-value-in-requires
+value-in-requires c κs = search needs
+
+value-in-requires-2 : tie.Need-value-in-requires-2
+value-in-requires-2 c κs = search needs
+
+flag-in-requires : tie.Need-flag-in-requires
+flag-in-requires c κs = search needs
+
+are-numbers-requires : tie.Need-are-numbers-requires
+are-numbers-requires c κs = search needs
+
+is-flag-requires : tie.Need-is-flag-requires
+is-flag-requires c κs = search needs
+
+both-requires : tie.Need-both-requires
+both-requires c κs = search needs
+
+both-requires-2 : tie.Need-both-requires-2
+both-requires-2 c κs = search needs
+
+checked-requires : tie.Need-checked-requires
+checked-requires c κs = search needs
+
+returns : tie.Need-returns
+unfolding isAnswered answerIn
+returns c = cc
+
+pub answered-spec : {M : Type 1} → statement M
+answered-spec =
+    tie.close
+    (tie.spec
+    value-in-requires
+    value-in-requires-2
+    flag-in-requires
+    are-numbers-requires
+    is-flag-requires
+    both-requires
+    both-requires-2
+    checked-requires
+    returns)

@@ -1,0 +1,20 @@
+-- `calllines::poisoned` meets its contract: the row of its word is the one that fits, and its parts are the row's.
+use Rattle.calllines.proofs.Table.{poison-line}
+use borrow.Author.Needs.{needs}
+use Rattle.calllines.proofs.forms.poisoned.Statement.{statement}
+use Rattle.calllines.proofs.forms.poisoned.Tie as tie
+
+is-cause-requires : tie.Need-is-cause-requires
+is-cause-requires c κs = search needs
+
+cause-in-requires : tie.Need-cause-in-requires
+cause-in-requires c κs = search needs
+
+checked-requires : tie.Need-checked-requires
+checked-requires c κs = search needs
+
+returns : tie.Need-returns
+returns c = cc (poison-line (c .before .before .before .before .args .text .now) (c .before .before .before .before .pre .0) (c .before .before .before .before .pre .1))
+
+pub poisoned-spec : {M : Type 1} → statement M
+poisoned-spec = tie.close (tie.spec is-cause-requires cause-in-requires checked-requires returns)

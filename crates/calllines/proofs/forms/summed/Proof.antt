@@ -1,0 +1,34 @@
+-- `calllines::summed` meets its contract: the row of its word is the one that fits, and its parts are the row's.
+use Rattle.calllines.proofs.Table.{sum-line}
+use borrow.Author.Needs.{needs}
+use Rattle.calllines.proofs.forms.summed.Statement.{statement}
+use Rattle.calllines.proofs.forms.summed.Tie as tie
+
+are-numbers-requires : tie.Need-are-numbers-requires
+are-numbers-requires c κs = search needs
+
+value-in-requires : tie.Need-value-in-requires
+value-in-requires c κs = search needs
+
+value-in-requires-2 : tie.Need-value-in-requires-2
+value-in-requires-2 c κs = search needs
+
+value-in-requires-3 : tie.Need-value-in-requires-3
+value-in-requires-3 c κs = search needs
+
+checked-requires : tie.Need-checked-requires
+checked-requires c κs = search needs
+
+returns : tie.Need-returns
+returns c = cc (sum-line (c .before .before .before .before .before .before .args .text .now) (c .before .before .before .before .before .before .pre .0) (c .before .before .before .before .before .before .pre .1))
+
+pub summed-spec : {M : Type 1} → statement M
+summed-spec =
+    tie.close
+    (tie.spec
+    are-numbers-requires
+    value-in-requires
+    value-in-requires-2
+    value-in-requires-3
+    checked-requires
+    returns)
