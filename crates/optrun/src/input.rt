@@ -1,7 +1,7 @@
 // The input, cut at LF, a line at a time; "lines end in LF, the last one's end may be missing".
 ghost use Prim.Native.Nat.{_≤_};
 ghost use lib.ListN.{length};
-use trace::Line;
+use calllines::Said;
 use trace::Reader;
 
 // Where the input stands: the line as far as it was read, its number, whether it is complete, what is left of the bytes read last, and whether the
@@ -105,12 +105,12 @@ pub(crate) fn next(i: Input, line: &mut [u8; 4096], chunk: &mut [u8; 4096]) -> I
 }
 
 // What is said: nothing while the line is not complete.
-pub(crate) fn said(i: Input, line: &[u8; 4096]) -> Line {
+pub(crate) fn said(i: Input, line: &[u8; 4096]) -> Said {
     if !i.whole {
-        return Line::Comment;
+        return Said::Comment;
     }
     let reader = i.reader;
-    trace::finish(reader, line)
+    calllines::optrun_line(calllines::finish(reader, line))
 }
 
 // Prints the front of a buffer that holds any line.

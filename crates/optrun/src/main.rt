@@ -1,14 +1,14 @@
 // optrun: document 01's opening and a flush count of 0. It reads lines from standard input and answers each: `piece QTAG OFFSET COUNT`, `no` and the
-// number, or `bad` and the line's number. What a line says, what is called and what is printed stand in the crates trace and runner; here the input
-// is cut at LF and the lines are counted.
+// number, what a taking took, or `bad` and the line's number. What a line says, what is called and what is printed stand in the crates calllines, linecalls
+// and runner; here the input is cut at LF and the lines are counted.
 mod input;
 
+use calllines::Said;
 use input::Input;
 use model::Counts;
 use model::Row;
 use runner::Answered;
 use submitter::Opened;
-use trace::Line;
 
 // The one region of the figures: id, generation, first offset, capacity, data length, one further run.
 fn plan() -> [u64; 70] {
@@ -26,7 +26,7 @@ fn plan() -> [u64; 70] {
 
 // A line is answered, and the answer printed.
 fn answer(
-    said: Line,
+    said: Said,
     number: u64,
     counts: Counts,
     rows: [Row; 64],
@@ -38,7 +38,7 @@ fn answer(
 ) -> Answered {
     let mut out = [0u8; 128];
     let a = runner::answer(
-        said,
+        linecalls::asks(said, runner::named(), 0), // "a flush count of 0"
         number,
         counts,
         rows,

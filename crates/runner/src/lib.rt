@@ -1,21 +1,19 @@
-// A line of a trace is answered by a table: what it says, the call that it asks for, and the line that is printed. The table is that of document 01's
-// figures, whose requests "name the opening's volume, region and generation".
+// A line of optrun is answered by a table: the call that it asks for, and the line that is printed. The table is that of document 01's figures, whose
+// requests "name the opening's volume, region and generation".
 ghost use mathlib.Core.Path.{_≡_};
 ghost use Prim.Native.Nat.{_≤_};
 ghost use lib.ListN.{take};
 ghost use Rattle.called.specs.Called.{lentOf};
-ghost use Rattle.runner.specs.Runner.{requestOf, Ran, Answers};
+ghost use Rattle.runner.specs.Runner.{figuresNamed, Ran, Answers};
 ghost use Rattle.step.specs.Figures.{figuresOpening};
 use completion::Reply;
 use host::CalledIn;
+use linecalls::Asks;
+use linecalls::Named;
 use model::Call;
 use model::Counts;
 use model::Opening;
-use model::Request;
 use model::Row;
-use regionmap::Position;
-use trace::Line;
-use trace::Submission;
 
 // The rows, the counts and how many bytes are to be printed.
 pub struct Answered {
@@ -45,20 +43,14 @@ pub fn figures() -> Opening
     }
 }
 
-// The request of a line: handle 0, with its own volume, id and generation.
-pub fn request(s: Submission) -> Request
-    ensures { λ r. ⌜ r ≡ requestOf s ⌝ }
+// The volume, the id and the generation of the figures' region.
+pub fn named() -> Named
+    ensures { λ r. ⌜ r ≡ figuresNamed ⌝ }
 {
-    Request {
-        handle: 0,
+    Named {
         volume: 1,
         region: 7,
         generation: 3,
-        offset: Position(s.position),
-        buffer: s.buffer,
-        length: s.length,
-        durable: s.durable,
-        tag: s.tag,
     }
 }
 
@@ -84,13 +76,13 @@ fn run(
     Answered {
         rows: held,
         counts: counted,
-        printed: texts::reply_text(reply, out),
+        printed: texts::short_text(reply, out),
     }
 }
 
-// A line is answered: a comment by nothing, a bad one by `bad` and its number, the others by their call's reply.
+// A line is answered: a comment by nothing, a call by its reply, any other line by `bad` and its number.
 pub fn answer(
-    line: Line,
+    asks: Asks,
     number: u64,
     counts: Counts,
     rows: [Row; 64],
@@ -101,41 +93,22 @@ pub fn answer(
     pool: &mut [u8],
     out: &mut [u8; 128],
 ) -> Answered
-    ensures { λ r. ⌜ Answers line number counts (lentOf rows (now (store .entry)) (now (free .entry)) (now (ready .entry)) (now (owners .entry)) (now (pool .entry))) (r .counts) (lentOf (r .rows) (now (store .exit)) (now (free .exit)) (now (ready .exit)) (now (owners .exit)) (now (pool .exit))) (take (r .printed) (now (out .exit))) ⌝ }
+    ensures { λ r. ⌜ Answers asks number counts (lentOf rows (now (store .entry)) (now (free .entry)) (now (ready .entry)) (now (owners .entry)) (now (pool .entry))) (r .counts) (lentOf (r .rows) (now (store .exit)) (now (free .exit)) (now (ready .exit)) (now (owners .exit)) (now (pool .exit))) (take (r .printed) (now (out .exit))) ⌝ }
     ensures bounded { λ r. ⌜ r .printed ≤ 128 ⌝ }
 {
-    match line {
-        Line::Comment => Answered {
+    match asks {
+        Asks::Nothing => Answered {
             rows,
             counts,
             printed: 0,
         },
-        Line::Bad => Answered {
+        Asks::Other => Answered {
             rows,
             counts,
             printed: texts::bad_text(number, out),
         },
-        Line::Write(s) => run(
-            Call::Write(request(s)),
-            counts,
-            rows,
-            store,
-            free,
-            ready,
-            owners,
-            pool,
-            out,
-        ),
-        Line::Read(s) => run(
-            Call::ReadPage(request(s)),
-            counts,
-            rows,
-            store,
-            free,
-            ready,
-            owners,
-            pool,
-            out,
+        Asks::Call(call) => run(
+            call, counts, rows, store, free, ready, owners, pool, out,
         ),
     }
 }

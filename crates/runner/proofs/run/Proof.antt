@@ -6,8 +6,8 @@ use Rattle.runner.proofs.run.Tie as tie
 call-in-requires : tie.Need-call-in-requires
 call-in-requires c κs = search needs
 
-reply-text-requires : tie.Need-reply-text-requires
-reply-text-requires c κs = search needs
+short-text-requires : tie.Need-short-text-requires
+short-text-requires c κs = search needs
 
 same-length : tie.Need-same-length
 same-length c = search needs
@@ -25,14 +25,14 @@ same-length-5 : tie.Need-same-length-5
 same-length-5 c = search needs
 
 returns : tie.Need-returns
-returns c = (record { reply = c .before .before .before .before .before .before .before .before .before .before .before .before .before .before .call-in .result .reply; called = c .before .before .before .before .before .before .before .before .before .before .before .before .before .before .call-in .ensures; prints = c .reply-text .ensures .1 }, c .reply-text .ensures .0)
+returns c = (record { reply = c .before .before .before .before .before .before .before .before .before .before .before .before .before .before .call-in .result .reply; called = c .before .before .before .before .before .before .before .before .before .before .before .before .before .before .call-in .ensures; prints = c .short-text .ensures .1 }, c .short-text .ensures .0)
 
 pub run-spec : {M : Type 1} → statement M
 run-spec =
     tie.close
     (tie.spec
     call-in-requires
-    reply-text-requires
+    short-text-requires
     same-length
     same-length-2
     same-length-3
