@@ -5,11 +5,27 @@ ghost use Prim.Native.Nat.{_+_, _≤_};
 ghost use lib.ListN.{length, take};
 ghost use Rattle.completion.specs.Numbers.{number};
 ghost use Rattle.texts.specs.Texts.{spaced, noWord, pieceText, numbered, replyText, badText};
+
+mod parts;
+mod short;
+
 use completion::Refusal;
 use completion::Reply;
+pub use parts::bit_of;
+pub use parts::put_cause;
+pub use parts::put_fields;
+pub use parts::put_need;
+pub use parts::put_range;
+pub use parts::put_raw;
+pub use parts::put_refused;
+pub use short::flush_text;
+pub use short::put_poisoned;
+pub use short::put_read;
+pub use short::short_text;
+pub use short::word_text;
 
 // Puts bytes behind the first `at` of a buffer, and tells where they end.
-fn put(text: &[u8], out: &mut [u8], at: usize) -> usize
+pub fn put(text: &[u8], out: &mut [u8], at: usize) -> usize
     requires { ⌜ at + length (now text) ≤ length (now out) ⌝ }
     ensures { λ r. ⌜ (r ≡ at + length (now (text .entry))) × ((length (now (out .exit)) ≡ length (now (out .entry))) × (take r (now (out .exit)) ≡ take at (now (out .entry)) ++ now (text .entry))) ⌝ }
 {
@@ -22,7 +38,7 @@ fn put(text: &[u8], out: &mut [u8], at: usize) -> usize
 }
 
 // Puts a space and a number's digits, of which there are at most 20.
-fn put_spaced(n: u64, out: &mut [u8], at: usize) -> usize
+pub fn put_spaced(n: u64, out: &mut [u8], at: usize) -> usize
     requires { ⌜ at + 21 ≤ length (now out) ⌝ }
     ensures { λ r. ⌜ (r ≤ at + 21) × ((length (now (out .exit)) ≡ length (now (out .entry))) × (take r (now (out .exit)) ≡ take at (now (out .entry)) ++ spaced n)) ⌝ }
 {
@@ -68,9 +84,9 @@ fn piece_text(qtag: u64, offset: u64, count: u64, out: &mut [u8]) -> usize
     put(b"\n", out, counted)
 }
 
-// A word of at most 3 letters, a number and the line's end.
-fn numbered_text(word: &[u8], n: u64, out: &mut [u8]) -> usize
-    requires { ⌜ (length (now word) ≤ 3) × (128 ≤ length (now out)) ⌝ }
+// A word of at most 6 letters, a number and the line's end.
+pub fn numbered_text(word: &[u8], n: u64, out: &mut [u8]) -> usize
+    requires { ⌜ (length (now word) ≤ 6) × (128 ≤ length (now out)) ⌝ }
     ensures { λ r. ⌜ (r ≤ 128) × (take r (now (out .exit)) ≡ numbered (now (word .entry)) n) ⌝ }
 {
     let spelled = put(word, out, 0);
