@@ -37,7 +37,7 @@ use Rattle.marks.proofs.Calling.{enough, stepped}
 use Rattle.settle.specs.declared.Finished.{Finished}
 use Rattle.settle.specs.declared.Finished.the-variants.{Away}
 use Rattle.settle.specs.Finished.{fateBy, planWith}
-use Rattle.carry.specs.Carried.{storeBy, freeBy, readyBy, ownersBy, poolBy, TouchedBy, Carried}
+use Rattle.carried.specs.Carried.{storeBy, freeBy, readyBy, ownersBy, poolBy, TouchedBy, Carried}
 use Rattle.answers.specs.UnderWay.{knownAs, AnswerIn, FinishedIn, FlushedIn}
 use Rattle.answers.proofs.Turned.{unknown, past-depth, not-named, beyond-none}
 use Rattle.answers.proofs.Holding.{in-table}

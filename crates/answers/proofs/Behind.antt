@@ -17,7 +17,7 @@ use Rattle.marks.proofs.Laws.{poison-laws}
 use Rattle.called.specs.Called.{lentOf, Beyond}
 use Rattle.settle.specs.declared.Finished.{Finished}
 use Rattle.settle.specs.declared.Finished.the-variants.{Away, Next, Ended, Rejected}
-use Rattle.carry.specs.Carried.{turnedPool, pushed, ownerWord, poisonedBy, storeBy, freeBy, readyBy, ownersBy, poolBy}
+use Rattle.carried.specs.Carried.{turnedPool, pushed, ownerWord, poisonedBy, storeBy, freeBy, readyBy, ownersBy, poolBy}
 use Rattle.carry.proofs.Carrying.{pushed-on}
 use Rattle.answers.proofs.Settling.{Held}
 

@@ -36,7 +36,7 @@ use Rattle.marks.proofs.Calling.{stepped, not-away}
 use Rattle.settle.specs.declared.Finished.{Finished}
 use Rattle.settle.specs.declared.Finished.the-variants.{Away, Next, Ended, Rejected}
 use Rattle.settle.specs.Finished.{fateBy, planWith}
-use Rattle.carry.specs.Carried.{storeBy, freeBy, readyBy, ownersBy, poolBy, AsksFor, TouchedBy, Carried}
+use Rattle.carried.specs.Carried.{storeBy, freeBy, readyBy, ownersBy, poolBy, AsksFor, TouchedBy, Carried}
 use Rattle.answers.proofs.Turned.{known}
 use Rattle.answers.proofs.Holding.{at, named-at, in-table, held}
 use Rattle.answers.proofs.Wording.{InputFits, FlushFits, FateWords, poison-fits, rules-words}

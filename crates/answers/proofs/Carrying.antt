@@ -29,7 +29,7 @@ use Rattle.liveregion.specs.Live.{liveOf}
 use Rattle.settle.specs.declared.Finished.{Finished}
 use Rattle.settle.specs.declared.Finished.the-variants.{Away, Next, Ended, Rejected}
 use Rattle.settle.specs.Finished.{causeIs, fateBy, planWith}
-use Rattle.carry.specs.Carried.{storeBy, freeBy, readyBy, ownersBy, poolBy, TouchedBy, Carried}
+use Rattle.carried.specs.Carried.{storeBy, freeBy, readyBy, ownersBy, poolBy, TouchedBy, Carried}
 use Rattle.answers.proofs.Parts.{CauseFits}
 use Rattle.answers.proofs.Settling.{going-in, rejected-in, ended-in}
 use Rattle.answers.proofs.Holding.{held, in-table}

@@ -17,7 +17,7 @@ use Rattle.step.specs.Step.{keptBy, poisonWith, withPoison}
 use Rattle.marks.specs.Marks.{withStore}
 use Rattle.marks.proofs.Laws.{poison-laws}
 use Rattle.settle.specs.Finished.{causeIs}
-use Rattle.carry.specs.Carried.{pushed, ownerWord, poisonedBy}
+use Rattle.carried.specs.Carried.{pushed, ownerWord, poisonedBy}
 use Rattle.carry.proofs.Carrying.{pushed-on}
 
 -- ---- the free stack

@@ -25,7 +25,7 @@ use Rattle.step.proofs.Fates.{Onward}
 use Rattle.called.specs.Called.{lentOf}
 use Rattle.firstpiece.specs.Piece.{PieceIn}
 use Rattle.firstpiece.proofs.Found.{piece-there}
-use Rattle.carry.specs.Carried.{AsksPiece, AsksFor}
+use Rattle.carried.specs.Carried.{AsksPiece, AsksFor}
 
 -- where the next piece starts there are bytes left of the range
 pub starts-inside : (k : Kind) (s : Split) → SplitFits (Piece k s) → firstOf k .0 + s .done < rangeEnd (Piece k s)

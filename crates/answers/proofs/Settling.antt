@@ -28,7 +28,7 @@ use Rattle.ring.proofs.Laws.{queue-laws}
 use Rattle.called.specs.Called.{lentOf}
 use Rattle.settle.specs.declared.Turn.{Turn}
 use Rattle.settle.specs.Finished.{turnedBy, causeIs}
-use Rattle.carry.specs.Carried.{turnedPool, pushed, ownerWord, poisonedBy}
+use Rattle.carried.specs.Carried.{turnedPool, pushed, ownerWord, poisonedBy}
 use Rattle.answers.proofs.Parts.{pushed-free, owner-set, kept-table, kept-host, CauseFits, poison-in}
 
 -- what is used of a live row in place r

@@ -43,7 +43,7 @@ fn under_way(store: &[u64], row: Row) -> u64
 {
     let awaits = row.awaits;
     match awaits {
-        Awaits::Piece(kind, split) => carry::piece_of(store, row.handle, kind, split).count,
+        Awaits::Piece(kind, split) => advance::piece_of(store, row.handle, kind, split).count,
         _ => 0,
     }
 }

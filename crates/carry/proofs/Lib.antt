@@ -1,2 +1,1 @@
--- What the proofs of this crate share.
 pub mod Carrying

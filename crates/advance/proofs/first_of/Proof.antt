@@ -1,0 +1,22 @@
+-- `advance::first_of` meets its contract: each arm knows the kind.
+use Rattle.step.specs.Rules.{firstOf}
+use borrow.Author.Needs.{needs}
+use Rattle.advance.proofs.first_of.Statement.{statement}
+use Rattle.advance.proofs.first_of.Tie as tie
+
+enum-known-kind : tie.Need-enum-known-kind
+enum-known-kind c = search needs
+
+enum-known-kind-2 : tie.Need-enum-known-kind-2
+enum-known-kind-2 c = search needs
+
+returns : tie.Need-returns
+unfolding firstOf
+returns c = rw (c .before .kind .given .1)
+
+returns-2 : tie.Need-returns-2
+unfolding firstOf
+returns-2 c = rw (c .before .kind2 .given .1)
+
+pub first-of-spec : {M : Type 1} → statement M
+first-of-spec = tie.close (tie.spec enum-known-kind enum-known-kind-2 returns returns-2)
