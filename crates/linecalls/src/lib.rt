@@ -49,7 +49,7 @@ fn submission(write: bool, q: Request) -> Call
 }
 
 // What a line asks for; `flushes` is "the flush count last given".
-pub fn asks(said: Said, named: Named, flushes: u64) -> Asks
+pub fn asked(said: Said, named: Named, flushes: u64) -> Asks
     ensures { λ r. ⌜ r ≡ asksOf said named flushes ⌝ }
 {
     match said {

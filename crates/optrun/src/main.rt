@@ -38,7 +38,7 @@ fn answer(
 ) -> Answered {
     let mut out = [0u8; 128];
     let a = runner::answer(
-        linecalls::asks(said, runner::named(), 0), // "a flush count of 0"
+        linecalls::asked(said, runner::named(), 0), // "a flush count of 0"
         number,
         counts,
         rows,
