@@ -18,7 +18,7 @@ use Rattle.called.specs.Called.{lentOf, Beyond}
 use Rattle.settle.specs.declared.Finished.{Finished}
 use Rattle.settle.specs.declared.Finished.the-variants.{Away, Next, Ended, Rejected}
 use Rattle.carried.specs.Carried.{turnedPool, pushed, ownerWord, poisonedBy, storeBy, freeBy, readyBy, ownersBy, poolBy}
-use Rattle.carry.proofs.Carrying.{pushed-on}
+use Rattle.release.proofs.Releasing.{pushed-on}
 use Rattle.answers.proofs.Settling.{Held}
 
 -- as long as before, and the same from a place on

@@ -18,7 +18,7 @@ use Rattle.marks.specs.Marks.{withStore}
 use Rattle.marks.proofs.Laws.{poison-laws}
 use Rattle.settle.specs.Finished.{causeIs}
 use Rattle.carried.specs.Carried.{pushed, ownerWord, poisonedBy}
-use Rattle.carry.proofs.Carrying.{pushed-on}
+use Rattle.release.proofs.Releasing.{pushed-on}
 
 -- ---- the free stack
 
