@@ -1,13 +1,13 @@
--- `rotation::shift_right` meets its contract: the bytes from k on that the first copy saves are those that the last one puts before the others.
+-- `shift::shift_right` meets its contract: the bytes from k on that the first copy saves are those that the last one puts before the others.
 use mathlib.Core.Path.{_≡_, sym, ap, _∙_}
 use mathlib.Core.List.{_++_}
 use Prim.Native.Nat.{ℕ, _-_}
 use native.Mathlib.Omega.{arith}
 use lib.ListN.{length, take, drop, length-take, length-drop}
 use borrow.Author.Needs.{needs}
-use Rattle.rotation.proofs.Parts.{front-held, put-before, to-end}
-use Rattle.rotation.proofs.shift_right.Statement.{statement}
-use Rattle.rotation.proofs.shift_right.Tie as tie
+use Rattle.shift.proofs.Parts.{front-held, put-before, to-end}
+use Rattle.shift.proofs.shift_right.Statement.{statement}
+use Rattle.shift.proofs.shift_right.Tie as tie
 
 abbrev st : tie.After-copy → tie.Start
 st c = c .before .before .before .before .before .before .before

@@ -1,13 +1,13 @@
--- `rotation::shift_left` meets its contract: the k bytes that the first copy saves are those that the last one puts behind the others.
+-- `shift::shift_left` meets its contract: the k bytes that the first copy saves are those that the last one puts behind the others.
 use mathlib.Core.Path.{_≡_, sym, ap, _∙_}
 use mathlib.Core.List.{_++_}
 use native.Mathlib.Omega.{arith}
 use lib.ListN.{length, take, drop, length-take, length-drop}
 use lib.Seq.{length-take-le}
 use borrow.Author.Needs.{needs}
-use Rattle.rotation.proofs.Parts.{front-held, put-behind}
-use Rattle.rotation.proofs.shift_left.Statement.{statement}
-use Rattle.rotation.proofs.shift_left.Tie as tie
+use Rattle.shift.proofs.Parts.{front-held, put-behind}
+use Rattle.shift.proofs.shift_left.Statement.{statement}
+use Rattle.shift.proofs.shift_left.Tie as tie
 
 abbrev st : tie.After-copy → tie.Start
 st c = c .before .before .before .before .before .before

@@ -1,37 +1,32 @@
--- `rotation::move_right` meets its contract: before each turn the bytes from `end` on have been moved, and before end + k all is as it was.
--- The measure is `end`.
+-- `moving::move_left` meets its contract: before each turn the first `at` of the bytes from k on lie at the front, and from `at` on all is as it was.
+-- The measure is what is left to move.
 use mathlib.Core.Path.{_≡_, refl, sym, ap, _∙_}
-use mathlib.Core.List.{append-nil, _++_}
+use mathlib.Core.List.{List, _++_}
 use Prim.Native.Nat.{ℕ, _+_, _-_, _≤_}
 use native.Mathlib.Omega.{arith}
-use lib.ListN.{length, take, drop}
-use lib.Seq.{length-take-le, length-front, take-length, paste}
-use Rattle.rotation.proofs.Parts.{right-hop}
-use Rattle.rotation.proofs.move_right.Statement.{statement}
-use Rattle.rotation.proofs.move_right.Tie as tie
+use lib.ListN.{length-drop, length, take, drop}
+use lib.Seq.{length-take-le, length-front, take-all, paste}
+use Rattle.moving.proofs.Parts.{left-hop}
+use Rattle.moving.proofs.move_left.Statement.{statement}
+use Rattle.moving.proofs.move_left.Tie as tie
 
 abbrev Inv-loop : tie.InvT-loop
-Inv-loop s₀ held₀ k end₀ s held end = (end ≤ end₀) × (length held ≡ length held₀) × (length s ≡ length s₀) × (s ≡ take (end + k) s₀ ++ take (end₀ - end) (drop end s₀))
+Inv-loop s₀ held₀ k n at₀ s held at = (at ≤ n) × (length held ≡ length held₀) × (length s ≡ length s₀) × (s ≡ take at (drop k s₀) ++ drop at s₀)
 
 abbrev μ-loop : tie.MeasureT-loop
-μ-loop s₀ held₀ k end₀ s held end = end
+μ-loop s₀ held₀ k n at₀ s held at = n - at
 
-sub-end : tie.Need-sub-end Inv-loop μ-loop
-sub-end c = omega arith
+sub-n : tie.Need-sub-n Inv-loop μ-loop
+sub-n c = omega arith
 
 loop-holds : tie.Need-loop-holds Inv-loop μ-loop
-loop-holds c =
-    let l = c .before .before .args .s .now in
-    let k = c .before .before .args .k in
-    let whole : length l - k + k ≡ length l = omega arith in
-    let none : length l - k - (length l - k) ≡ 0 = omega arith in
-    (omega arith, refl, refl, sym ((λ i. take (whole i) l ++ take (none i) (drop (length l - k) l)) ∙ append-nil (take (length l) l) ∙ take-length l))
+loop-holds c = (omega arith, refl, refl, refl)
+
+sub-lesser : tie.Need-sub-lesser Inv-loop μ-loop
+sub-lesser c = omega arith
 
 lesser-requires : tie.Need-lesser-requires Inv-loop μ-loop
 lesser-requires c κs = omega arith
-
-sub-end-2 : tie.Need-sub-end-2 Inv-loop μ-loop
-sub-end-2 c = omega arith
 
 slice-relend-prefix-hop : tie.Need-slice-relend-prefix-hop Inv-loop μ-loop
 slice-relend-prefix-hop c = omega arith
@@ -49,6 +44,9 @@ hop-requires c κs =
     let part : length (take count held) ≡ count = length-take-le count held (omega arith) in
     omega arith
 
+add-at : tie.Need-add-at Inv-loop μ-loop
+add-at c = omega arith
+
 loop-less : tie.Need-loop-less Inv-loop μ-loop
 loop-less c = omega arith
 
@@ -62,18 +60,12 @@ loop-again c =
     let held = head .loop .held in
     let count = lesser .lesser .result in
     let part : length (take count held) ≡ count = length-take-le count held (omega arith) in
-    let k = start .args .k in
-    let end = head .loop .end - count in
-    let j = length l - k - head .loop .end in
-    let before : head .loop .end ≡ end + count = omega arith in
-    let more : count + j ≡ length l - k - end = omega arith in (
+    let at = head .loop .at in (
       omega arith,
       length-front held (hopped .hop .last .1 .0) count (hopped .hop .kept .1 .0) ∙ head .loop .inv .1,
       hopped .hop .kept .0 ∙ head .loop .inv .2,
-      hopped .hop .ensures ∙ ap (paste (head .loop .s) (end + k) (drop end (head .loop .s))) part
-          ∙ right-hop l (head .loop .s) k end count j (omega arith)
-          (head .loop .inv .3 ∙ (λ i. take (before i + k) l ++ take j (drop (before i) l)))
-          ∙ ap (λ (n : ℕ). take (end + k) l ++ take n (drop end l)) more,
+      hopped .hop .ensures ∙ ap (paste (head .loop .s) at (drop (at + start .args .k) (head .loop .s))) part
+          ∙ left-hop l (head .loop .s) (start .args .k) at count (omega arith) (head .loop .inv .3),
     )
 
 same-length : tie.Need-same-length Inv-loop μ-loop
@@ -88,25 +80,25 @@ returns c =
     let start = head .before .before .before in
     let l = start .args .s .now in
     let k = start .args .k in
-    let none : head .loop .end ≡ 0 = omega arith in
-    let all : length l - k - 0 ≡ length l - k = omega arith in
-    let first : 0 + k ≡ k = omega arith in
-    head .loop .inv .3 ∙ (λ i. take (none i + k) l ++ take (length l - k - none i) (drop (none i) l)) ∙ (λ i. take (first i) l ++ take (all i) l)
+    let all : head .loop .at ≡ length l - k = omega arith in
+    head .loop .inv .3 ∙ (λ i. take (all i) (drop k l) ++ drop (all i) l)
+    ∙ ap (λ (r : List ℕ). r ++ drop (length l - k) l) (take-all (length l - k) (drop k l) (simp length-drop (omega arith)))
 
-pub move-right-spec : {M : Type 1} → statement M
-move-right-spec =
+pub move-left-spec : {M : Type 1} → statement M
+move-left-spec =
     tie.close
     (tie.spec
     Inv-loop
     μ-loop
-    sub-end
+    sub-n
     loop-holds
+    sub-lesser
     lesser-requires
-    sub-end-2
     slice-relend-prefix-hop
     slice-aggregate-hop
     add-hop
     hop-requires
+    add-at
     loop-less
     loop-again
     same-length

@@ -1,12 +1,12 @@
--- `rotation::shift` meets its contract: a turn by all of the bytes changes nothing, and the arrays that are taken hold the shorter side.
+-- `shift::shift` meets its contract: a turn by all of the bytes changes nothing, and the arrays that are taken hold the shorter side.
 use mathlib.Core.Path.{sym}
 use mathlib.Core.List.{_++_}
 use native.Mathlib.Omega.{arith}
 use lib.ListN.{drop-of-length-le}
 use lib.Seq.{take-all}
 use borrow.Author.Needs.{needs}
-use Rattle.rotation.proofs.shift.Statement.{statement}
-use Rattle.rotation.proofs.shift.Tie as tie
+use Rattle.shift.proofs.shift.Statement.{statement}
+use Rattle.shift.proofs.shift.Tie as tie
 
 returns : tie.Need-returns
 returns c =

@@ -1,8 +1,8 @@
--- `rotation::hop` meets its contract: what the second copy puts down is what the first took up.
+-- `moving::hop` meets its contract: what the second copy puts down is what the first took up.
 use borrow.Author.Needs.{needs}
-use Rattle.rotation.proofs.Parts.{hopped}
-use Rattle.rotation.proofs.hop.Statement.{statement}
-use Rattle.rotation.proofs.hop.Tie as tie
+use Rattle.moving.proofs.Parts.{hopped}
+use Rattle.moving.proofs.hop.Statement.{statement}
+use Rattle.moving.proofs.hop.Tie as tie
 
 add-from-end : tie.Need-add-from-end
 add-from-end c = search needs

@@ -1,4 +1,4 @@
--- `rotation::copy` meets its contract: before each turn `to` is the first i bytes of `from` and then its own. The measure is what is left of `from`.
+-- `moving::copy` meets its contract: before each turn `to` is the first i bytes of `from` and then its own. The measure is what is left of `from`.
 use mathlib.Core.Path.{_≡_, refl, ap, _∙_}
 use mathlib.Core.List.{List, [], _∷_, _++_, append-nil}
 use Prim.Native.Nat.{ℕ, zero, suc, _-_, _≤_, _<_}
@@ -7,8 +7,8 @@ use native.Mathlib.Numerals.{add-one}
 use native.Mathlib.Omega.{arith}
 use lib.ListN.{length, take, drop, getD, set, length-set, drop-of-length-le}
 use lib.Seq.{take-all}
-use Rattle.rotation.proofs.copy.Statement.{statement}
-use Rattle.rotation.proofs.copy.Tie as tie
+use Rattle.moving.proofs.copy.Statement.{statement}
+use Rattle.moving.proofs.copy.Tie as tie
 
 abbrev Inv-loop : tie.InvT-loop
 Inv-loop from to₀ i₀ to i = (i ≤ length from) × (length to ≡ length to₀) × (to ≡ take i from ++ drop i to₀)
