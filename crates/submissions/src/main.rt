@@ -2,13 +2,13 @@
 // replies. The first lists have no reply from 11 on and no unknown handle. They are printed as traces, each with its replies as comments, for a
 // comparison with the Rust: each line `# list` begins a trace of its own.
 use drawing::Drawn;
-use drawing::Tally;
 use host::CalledIn;
 use model::Counts;
 use model::Request;
 use model::Row;
 use model::Submit;
 use submitter::Opened;
+use tally::Tally;
 
 // How many openings there are, how many of them are printed, and how many requests each gets.
 const OPENINGS: u64 = 256;
@@ -81,14 +81,14 @@ fn submit(
     let held = c.rows;
     let counted = c.counts;
     if shown {
-        drawing::say_request(read, q);
-        drawing::say_reply(reply);
+        saying::say_request(read, q);
+        saying::say_reply(reply);
     }
     Going {
         rows: held,
         counts: counted,
         seed: drawing::later(g.seed, 16),
-        tally: drawing::tallied(tally, reply),
+        tally: tally::tallied(tally, reply),
     }
 }
 
@@ -149,7 +149,7 @@ fn run_list(d: Drawn, seed: u64, shown: bool, tally: Tally) -> Tally {
     let held = opened.rows;
     let table = opened.opened;
     match table {
-        Opened::No(_) => drawing::refused(tally),
+        Opened::No(_) => tally::refused(tally),
         Opened::Table(counts) => {
             let lent = drawing::pool_size(d);
             let after = submit_all(
@@ -169,18 +169,18 @@ fn run_list(d: Drawn, seed: u64, shown: bool, tally: Tally) -> Tally {
 
 // All lists, one after the other, and what was said in all.
 fn main() {
-    let mut tally = drawing::none();
+    let mut tally = tally::none();
     let mut k: u64 = 0;
     while k < OPENINGS {
         let shown = k < PRINTED;
         let seed = drawing::later(k * 7919 + 1, 3);
         let d = drawing::draw_opening(seed, shown);
         if shown {
-            drawing::say_list(k);
-            drawing::say_opening(d);
+            saying::say_list(k);
+            saying::say_opening(d);
         }
         tally = run_list(d, seed, shown, tally);
         k += 1;
     }
-    drawing::say_total(tally);
+    saying::say_total(tally);
 }

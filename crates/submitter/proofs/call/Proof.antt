@@ -50,16 +50,16 @@ use Rattle.optable.proofs.Tally.{N}
 use Rattle.optable.proofs.Tally as Tally
 use Rattle.counts.proofs.Counted.{flag, frees, Becomes}
 use Rattle.rows.proofs.find.Symbol as find-def
-use Rattle.rows.proofs.find.Symbol.{name as #optable·find}
+use Rattle.rows.proofs.find.Symbol.{name as #rows·find}
 use Rattle.rows.proofs.find.Met as find-thm
 use Rattle.rows.proofs.claim.Symbol as claim-def
-use Rattle.rows.proofs.claim.Symbol.{name as #optable·claim}
+use Rattle.rows.proofs.claim.Symbol.{name as #rows·claim}
 use Rattle.rows.proofs.claim.Met as claim-thm
 use Rattle.counts.proofs.accept.Symbol as accept-def
-use Rattle.counts.proofs.accept.Symbol.{name as #optable·accept}
+use Rattle.counts.proofs.accept.Symbol.{name as #counts·accept}
 use Rattle.counts.proofs.accept.Met as accept-thm
 use Rattle.counts.proofs.release.Symbol as release-def
-use Rattle.counts.proofs.release.Symbol.{name as #optable·release}
+use Rattle.counts.proofs.release.Symbol.{name as #counts·release}
 use Rattle.counts.proofs.release.Met as release-thm
 use Rattle.called.specs.Called.{asCall, placeOf}
 use Rattle.called.proofs.place.Symbol as place-def
@@ -167,8 +167,8 @@ module _ {M : Type 1} (𝓤 : URA M) (H : Heap 𝓤) (A : Atoms 𝓤) (W : Given
       -- [owners; pool; ready; free; store; rows; counts]
       nothing ! $ nothing ! $ move ! (0 ∷ 8 ∷ 7 ∷ 6 ∷ 5 ∷ 4 ∷ 2 ∷ 3 ∷ 1 ∷ []) $ group ! 9 $ frame ! $ owned ! Reply-row (Is Reply-row) (reply-makes 𝓤 H A) (x .touched .reply) _ is $ done !
 
-  module _ (C : Calls 𝓤 H) (Λ : Loops 𝓤 H) (fm : FmC 𝓤 H (W .laws) C) (known-place : Triple 𝓤 (C #called·place) (Place 𝓤 H A mem run)) (known-find : Triple 𝓤 (C #optable·find) (Find 𝓤 H A mem run)) (known-touch : Triple 𝓤 (C #queuecore·touch) (Touch 𝓤 H A mem run))
-      (known-claim : Triple 𝓤 (C #optable·claim) (Claim 𝓤 H A mem run)) (known-accept : Triple 𝓤 (C #optable·accept) (Becomes flag acceptedIf 𝓤 H A)) (known-release : Triple 𝓤 (C #optable·release) (Becomes frees releasedBy 𝓤 H A)) where
+  module _ (C : Calls 𝓤 H) (Λ : Loops 𝓤 H) (fm : FmC 𝓤 H (W .laws) C) (known-place : Triple 𝓤 (C #called·place) (Place 𝓤 H A mem run)) (known-find : Triple 𝓤 (C #rows·find) (Find 𝓤 H A mem run)) (known-touch : Triple 𝓤 (C #queuecore·touch) (Touch 𝓤 H A mem run))
+      (known-claim : Triple 𝓤 (C #rows·claim) (Claim 𝓤 H A mem run)) (known-accept : Triple 𝓤 (C #counts·accept) (Becomes flag acceptedIf 𝓤 H A)) (known-release : Triple 𝓤 (C #counts·release) (Becomes frees releasedBy 𝓤 H A)) where
     -- `touch`, where the row's machine value is w
     abbrev to : Val → Touch 𝓤 H A mem run .Ghost
     to = to-touch 𝓤 H A W mem run κ₂ κ₃ κ₄ κ₅ κ₆ q₂ q₃ q₄ q₅ q₆ o counts rows store free ready owners pool
@@ -257,9 +257,9 @@ module _ {M : Type 1} (𝓤 : URA M) (H : Heap 𝓤) (A : Atoms 𝓤) (W : Given
         move ! (69 ∷ 70 ∷ []) $ free1 ! $ move ! (67 ∷ 68 ∷ []) $ free1 ! $ move ! (65 ∷ 66 ∷ []) $ free1 ! $ move ! (63 ∷ 64 ∷ []) $ free1 ! $ move ! (61 ∷ 62 ∷ []) $ free1 ! $ move ! (59 ∷ 60 ∷ []) $ free1 ! $ move ! (57 ∷ 58 ∷ []) $ free1 ! $ move ! (55 ∷ 56 ∷ []) $ free1 ! $ move ! (53 ∷ 54 ∷ []) $ free1 ! $ move ! (51 ∷ 52 ∷ []) $ free1 ! $ move ! (49 ∷ 50 ∷ []) $ free1 ! $ move ! (47 ∷ 48 ∷ []) $ free1 ! $ move ! (45 ∷ 46 ∷ []) $ free1 ! $ move ! (43 ∷ 44 ∷ []) $ free1 ! $ move ! (41 ∷ 42 ∷ []) $ free1 ! $ move ! (39 ∷ 40 ∷ []) $ free1 ! $ move ! (37 ∷ 38 ∷ []) $ free1 ! $ move ! (35 ∷ 36 ∷ []) $ free1 ! $ move ! (33 ∷ 34 ∷ []) $ free1 ! $ move ! (31 ∷ 32 ∷ []) $ free1 ! $ move ! (29 ∷ 30 ∷ []) $ free1 ! $ move ! (27 ∷ 28 ∷ []) $ free1 ! $ move ! (25 ∷ 26 ∷ []) $ free1 ! $ move ! (23 ∷ 24 ∷ []) $ free1 ! $ move ! (21 ∷ 22 ∷ []) $ free1 ! $ move ! (19 ∷ 20 ∷ []) $ free1 ! $ move ! (17 ∷ 18 ∷ []) $ free1 ! $ move ! (15 ∷ 16 ∷ []) $ free1 ! $ move ! (13 ∷ 14 ∷ []) $ free1 ! $ move ! (11 ∷ 12 ∷ []) $ free1 ! $ move ! (9 ∷ 10 ∷ []) $ free1 ! $ move ! (7 ∷ 8 ∷ []) $ free1 ! $ move ! (5 ∷ 6 ∷ []) $ free1 ! $ move ! (3 ∷ 4 ∷ []) $ free1 ! $ free0 ! $
         by ! (exits x rows′ c′ did claimed (released ∙ ap (releasedBy (x .touched .frees)) accepted) (touched-reply (x .touched) v₁ is-t)))))))))))))))))))))))))))))))))))))))))))))))))))))))))))))))))
 
-module _ {M : Type 1} (𝓤 : URA M) (H : Heap 𝓤) (A : Atoms 𝓤) (W : Given 𝓤 H A) (mem : Memory → SProp 𝓤) (run : Routine → Fun 𝓤) (𝓣 : Tables 𝓤 H) (k₁ : Triple 𝓤 (𝓣 .C #called·place) (Place 𝓤 H A mem run)) (k₂ : Triple 𝓤 (𝓣 .C #optable·find) (Find 𝓤 H A mem run))
-    (k₃ : Triple 𝓤 (𝓣 .C #queuecore·touch) (Touch 𝓤 H A mem run)) (k₄ : Triple 𝓤 (𝓣 .C #optable·claim) (Claim 𝓤 H A mem run)) (k₅ : Triple 𝓤 (𝓣 .C #optable·accept) (Becomes flag acceptedIf 𝓤 H A))
-    (k₆ : Triple 𝓤 (𝓣 .C #optable·release) (Becomes frees releasedBy 𝓤 H A)) where
+module _ {M : Type 1} (𝓤 : URA M) (H : Heap 𝓤) (A : Atoms 𝓤) (W : Given 𝓤 H A) (mem : Memory → SProp 𝓤) (run : Routine → Fun 𝓤) (𝓣 : Tables 𝓤 H) (k₁ : Triple 𝓤 (𝓣 .C #called·place) (Place 𝓤 H A mem run)) (k₂ : Triple 𝓤 (𝓣 .C #rows·find) (Find 𝓤 H A mem run))
+    (k₃ : Triple 𝓤 (𝓣 .C #queuecore·touch) (Touch 𝓤 H A mem run)) (k₄ : Triple 𝓤 (𝓣 .C #rows·claim) (Claim 𝓤 H A mem run)) (k₅ : Triple 𝓤 (𝓣 .C #counts·accept) (Becomes flag acceptedIf 𝓤 H A))
+    (k₆ : Triple 𝓤 (𝓣 .C #counts·release) (Becomes frees releasedBy 𝓤 H A)) where
   self-walks : Walks 𝓤 H A self.ended stayed (WpFn 𝓤 H (𝓣 .C) (𝓣 .Λ) code.function) (self.clauses 𝓤 H A mem run)
   self-walks =
       walked 𝓤 H A self.ended stayed (self.clauses 𝓤 H A mem run) (WpFn 𝓤 H (𝓣 .C) (𝓣 .Λ) code.function) (λ κs. (call-vals, (ptr-vals, (slice-vals, (slice-vals, (slice-vals, (slice-vals, (slice-vals, (slice-vals, tt)))))))))
@@ -308,8 +308,8 @@ call-spec 𝓤 H 𝓜 𝓖 𝓡 =
     (tables 𝓤 H 𝓜 𝓡 code.env .C) (tables 𝓤 H 𝓜 𝓡 code.env .Λ) #submitter·call code.function (code.unfolded 𝓤 H 𝓜 𝓡)
     (self-meets 𝓤 H (𝓖 .A) (givenOf 𝓤 H 𝓜 𝓖) (𝓜 .mem) (𝓡 .run) (tablesOf 𝓤 H 𝓜 (tables 𝓤 H 𝓜 𝓡 code.env))
     (cited 𝓤 H (Place 𝓤 H (𝓖 .A) (𝓜 .mem) (𝓡 .run)) 𝓜 𝓡 code.env #called·place place-def.routine code.calls-called·place (place-thm.met 𝓤 H 𝓜 𝓖 𝓡))
-    (cited 𝓤 H (Find 𝓤 H (𝓖 .A) (𝓜 .mem) (𝓡 .run)) 𝓜 𝓡 code.env #optable·find find-def.routine code.calls-optable·find (find-thm.met 𝓤 H 𝓜 𝓖 𝓡))
+    (cited 𝓤 H (Find 𝓤 H (𝓖 .A) (𝓜 .mem) (𝓡 .run)) 𝓜 𝓡 code.env #rows·find find-def.routine code.calls-rows·find (find-thm.met 𝓤 H 𝓜 𝓖 𝓡))
     (cited 𝓤 H (Touch 𝓤 H (𝓖 .A) (𝓜 .mem) (𝓡 .run)) 𝓜 𝓡 code.env #queuecore·touch touch-def.routine code.calls-queuecore·touch (touch-thm.met 𝓤 H 𝓜 𝓖 𝓡))
-    (cited 𝓤 H (Claim 𝓤 H (𝓖 .A) (𝓜 .mem) (𝓡 .run)) 𝓜 𝓡 code.env #optable·claim claim-def.routine code.calls-optable·claim (claim-thm.met 𝓤 H 𝓜 𝓖 𝓡))
-    (cited 𝓤 H (Becomes flag acceptedIf 𝓤 H (𝓖 .A)) 𝓜 𝓡 code.env #optable·accept accept-def.routine code.calls-optable·accept (accept-thm.met 𝓤 H 𝓜 𝓖 𝓡))
-    (cited 𝓤 H (Becomes frees releasedBy 𝓤 H (𝓖 .A)) 𝓜 𝓡 code.env #optable·release release-def.routine code.calls-optable·release (release-thm.met 𝓤 H 𝓜 𝓖 𝓡)))
+    (cited 𝓤 H (Claim 𝓤 H (𝓖 .A) (𝓜 .mem) (𝓡 .run)) 𝓜 𝓡 code.env #rows·claim claim-def.routine code.calls-rows·claim (claim-thm.met 𝓤 H 𝓜 𝓖 𝓡))
+    (cited 𝓤 H (Becomes flag acceptedIf 𝓤 H (𝓖 .A)) 𝓜 𝓡 code.env #counts·accept accept-def.routine code.calls-counts·accept (accept-thm.met 𝓤 H 𝓜 𝓖 𝓡))
+    (cited 𝓤 H (Becomes frees releasedBy 𝓤 H (𝓖 .A)) 𝓜 𝓡 code.env #counts·release release-def.routine code.calls-counts·release (release-thm.met 𝓤 H 𝓜 𝓖 𝓡)))

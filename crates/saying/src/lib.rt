@@ -1,14 +1,14 @@
 // What is printed: the lines of docs/TRACE.md for an opening and its calls, and, as comments, each reply in the words of that page, the counts and
 // the digest. Each list that is shown is a trace of its own.
-use crate::count::Tally;
-use crate::count::context_of;
-use crate::openings::Drawn;
-use crate::requests::word;
 use completion::Context;
 use completion::Refusal;
 use completion::Reply;
+use drawing::Drawn;
+use drawing::word;
 use libc::STDOUT_FILENO;
 use model::Request;
+use tally::Tally;
+use tally::context_of;
 
 // Text.
 fn say(text: &[u8]) {

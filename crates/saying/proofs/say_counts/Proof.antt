@@ -1,8 +1,8 @@
--- `drawing::say::say_counts` is safe and ends: the numbers go up to 16, below the array's length.
+-- `saying::say_counts` is safe and ends: the numbers go up to 16, below the array's length.
 use Prim.Native.Nat.{_-_, _≤_}
 use borrow.Author.Needs.{needs}
-use Rattle.drawing.proofs.say.say_counts.Statement.{statement}
-use Rattle.drawing.proofs.say.say_counts.Tie as tie
+use Rattle.saying.proofs.say_counts.Statement.{statement}
+use Rattle.saying.proofs.say_counts.Tie as tie
 
 abbrev Inv-loop : tie.InvT-loop
 Inv-loop counts n₀ n = n ≤ 17
