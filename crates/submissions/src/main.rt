@@ -2,130 +2,13 @@
 // replies. The first lists have no reply from 11 on and no unknown handle. They are printed as traces, each with its replies as comments, for a
 // comparison with the Rust: each line `# list` begins a trace of its own.
 use drawing::Drawn;
-use host::CalledIn;
-use model::Counts;
-use model::Request;
-use model::Row;
-use model::Submit;
 use submitter::Opened;
 use tally::Tally;
 
-// How many openings there are, how many of them are printed, and how many requests each gets.
+// How many openings there are, and how many of them are printed.
 const OPENINGS: u64 = 256;
 
 const PRINTED: u64 = 16;
-
-const REQUESTS: u64 = 24;
-
-// The table, the drawing and what was said so far.
-struct Going {
-    rows: [Row; 64],
-    counts: Counts,
-    seed: u64,
-    tally: Tally,
-}
-
-// A call that is lent all of the pool, or a byte less, so that the reply is 13.
-fn lent_call(
-    call: Submit,
-    all: bool,
-    counts: Counts,
-    rows: [Row; 64],
-    store: &mut [u64],
-    free: &mut [u64],
-    ready: &mut [u64],
-    owners: &mut [u64],
-    pool: &mut [u8],
-) -> CalledIn {
-    let size = drawing::lent(pool.len(), all);
-    host::call_in(
-        call,
-        counts,
-        rows,
-        store,
-        free,
-        ready,
-        owners,
-        &mut pool[..size],
-    )
-}
-
-// A request as a read or a write.
-fn call_of(read: bool, q: Request) -> Submit {
-    if read {
-        return Submit::ReadPage(q);
-    }
-    Submit::Write(q)
-}
-
-// One request is drawn and made, and its reply told; one in 32 that are not printed is lent another length of pool.
-fn submit(
-    g: Going,
-    d: Drawn,
-    shown: bool,
-    store: &mut [u64],
-    free: &mut [u64],
-    ready: &mut [u64],
-    owners: &mut [u64],
-    pool: &mut [u8],
-) -> Going {
-    let rows = g.rows;
-    let counts = g.counts;
-    let tally = g.tally;
-    let q = drawing::draw_request(d, g.seed, counts.live, shown);
-    let read = drawing::pick(g.seed, 12, 1) == 1;
-    let all = shown || 0 < drawing::pick(g.seed, 13, 31);
-    let call = call_of(read, q);
-    let c = lent_call(call, all, counts, rows, store, free, ready, owners, pool);
-    let reply = c.reply;
-    let held = c.rows;
-    let counted = c.counts;
-    if shown {
-        saying::say_request(read, q);
-        saying::say_reply(reply);
-    }
-    Going {
-        rows: held,
-        counts: counted,
-        seed: drawing::later(g.seed, 16),
-        tally: tally::tallied(tally, reply),
-    }
-}
-
-// The requests of one opening; a list that is printed ends when all buffers are taken.
-fn submit_all(
-    g: Going,
-    d: Drawn,
-    shown: bool,
-    store: &mut [u64],
-    free: &mut [u64],
-    ready: &mut [u64],
-    owners: &mut [u64],
-    pool: &mut [u8],
-) -> Going {
-    let o = d.opening;
-    let mut going = g;
-    let mut i: u64 = 0;
-    while i < REQUESTS {
-        let spent = going.counts;
-        if shown && o.buffers <= spent.live {
-            return going;
-        }
-        going = submit(going, d, shown, store, free, ready, owners, pool);
-        i += 1;
-    }
-    going
-}
-
-// An open table before its first request.
-fn begun(rows: [Row; 64], counts: Counts, seed: u64, tally: Tally) -> Going {
-    Going {
-        rows,
-        counts,
-        seed: drawing::later(seed, 80),
-        tally,
-    }
-}
 
 // One opening and its requests; a drawn opening that breaks a rule is counted and left.
 fn run_list(d: Drawn, seed: u64, shown: bool, tally: Tally) -> Tally {
@@ -152,8 +35,8 @@ fn run_list(d: Drawn, seed: u64, shown: bool, tally: Tally) -> Tally {
         Opened::No(_) => tally::refused(tally),
         Opened::Table(counts) => {
             let lent = drawing::pool_size(d);
-            let after = submit_all(
-                begun(held, counts, seed, tally),
+            let after = submitting::submit_all(
+                submitting::begun(held, counts, seed, tally),
                 d,
                 shown,
                 &mut store,

@@ -1,9 +1,9 @@
--- `submissions::lent_call` is safe: what is lent of the pool is at most as long as it.
+-- `submitting::lent_call` is safe: what is lent of the pool is at most as long as it.
 use native.Mathlib.Omega.{arith}
 use lib.ListN.{length-take}
 use borrow.Author.Needs.{needs}
-use Rattle.submissions.proofs.lent_call.Statement.{statement}
-use Rattle.submissions.proofs.lent_call.Tie as tie
+use Rattle.submitting.proofs.lent_call.Statement.{statement}
+use Rattle.submitting.proofs.lent_call.Tie as tie
 
 lent-requires : tie.Need-lent-requires
 lent-requires c κs = search needs

@@ -1,10 +1,10 @@
--- `submissions::submit_all` is safe and ends: it counts up to 24, and every call keeps the lengths of what is lent.
+-- `submitting::submit_all` is safe and ends: it counts up to 24, and every call keeps the lengths of what is lent.
 use mathlib.Core.Path.{_≡_}
 use Prim.Native.Nat.{_-_, _≤_}
 use lib.ListN.{length}
 use borrow.Author.Needs.{needs}
-use Rattle.submissions.proofs.submit_all.Statement.{statement}
-use Rattle.submissions.proofs.submit_all.Tie as tie
+use Rattle.submitting.proofs.submit_all.Statement.{statement}
+use Rattle.submitting.proofs.submit_all.Tie as tie
 
 abbrev Inv-loop : tie.InvT-loop
 Inv-loop d shown store₀ free₀ ready₀ owners₀ pool₀ o going₀ i₀ store free ready owners pool going i =
