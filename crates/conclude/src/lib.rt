@@ -26,7 +26,13 @@ fn either(a: bool, b: bool) -> bool
 }
 
 // The ticket of a write that is written (io.rs's ticket); the region's generation has 32 bits.
-pub fn ticket(o: Opening, g: LiveRegion, start: Position, end: Position, flushes: u64) -> WriteTicket
+pub fn ticket(
+    o: Opening,
+    g: LiveRegion,
+    start: Position,
+    end: Position,
+    flushes: u64,
+) -> WriteTicket
     ensures { λ r. ⌜ ((m : Map) → g .generation < 2 ^ 32 → r ≡ ticketOf o (planWith g m) (page start end) flushes) ⌝ }
 {
     let generation = (g.generation % 4294967296) as u32;

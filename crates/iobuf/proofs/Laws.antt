@@ -14,7 +14,8 @@ use borrow.Author.Tests.{le-leb, lt-leb}
 use Rattle.layout.specs.Pick.{pick}
 use Rattle.iobuf.specs.Turn.{turned, stretch, withStretch, turnedIn}
 use Rattle.iobuf.specs.TurnLaws.{TurnLaws, Fits, turns, sumOf}
-use Rattle.rotation.proofs.Parts.{rot, window}
+use Rattle.moving.proofs.Parts.{window}
+use Rattle.shift.proofs.Parts.{rot}
 
 -- ---- turns
 

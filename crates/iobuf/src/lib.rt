@@ -2,7 +2,7 @@
 // a buffer's number with the pool: its bytes are the pool's stretch from buffer × capacity on, which is lent on and turned there.
 ghost use mathlib.Core.Path.{_≡_};
 ghost use Rattle.iobuf.specs.Turn.{turned, turnedIn};
-use rotation::lesser;
+use moving::lesser;
 use rotation::rotate;
 
 // Turns the first n bytes left by k (rotate_left); the bytes past n stay, and so do all where k is not below n.

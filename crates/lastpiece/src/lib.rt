@@ -34,7 +34,15 @@ fn last_write(
     }
     let t = conclude::ticket(o, g, start, end, flushes);
     let buf = settle::buffer_as(back, row.buffer, s.total);
-    conclude::conclude(o, g.forced, first, row.durable, t, buf, settle::turn_back(back, s))
+    conclude::conclude(
+        o,
+        g.forced,
+        first,
+        row.durable,
+        t,
+        buf,
+        settle::turn_back(back, s),
+    )
 }
 
 // The end of the operation's last piece, by its kind.
@@ -64,6 +72,14 @@ pub fn last_piece(
             back,
             flushes,
         ),
-        Kind::Read { start, end } => lastread::last_read(g, row.buffer, start, end, s, answer, back),
+        Kind::Read { start, end } => lastread::last_read(
+            g,
+            row.buffer,
+            start,
+            end,
+            s,
+            answer,
+            back,
+        ),
     }
 }

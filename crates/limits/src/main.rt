@@ -60,13 +60,17 @@ fn filled(name: &[u8], o: Opening) {
     tried(name, o, lent(o), full());
 }
 
-// Depth, lifetime and card.
-fn numbers() {
+// Depth.
+fn depths() {
     opening(b"the figures", figures());
     opening(b"depth 0", depth(0));
     opening(b"depth 1", depth(1));
     opening(b"depth 4096", depth(4096));
     opening(b"depth 4097", depth(4097));
+}
+
+// Lifetime and card.
+fn numbers() {
     opening(b"lifetime 0", lifetime(0));
     opening(b"lifetime 1", lifetime(1));
     opening(b"lifetime 2^62", lifetime(0x4000_0000_0000_0000));
@@ -83,6 +87,10 @@ fn blocks() {
     tried(b"block 768", odd, lent(odd), threes);
     opening(b"block 1024", pool(1024, 3, 2048));
     opening(b"block 2048, starts off it", pool(2048, 3, 2048));
+}
+
+// The largest block, and one above it.
+fn largest_blocks() {
     let whole = counted(figured(3, 65536, 131072, 131072), 0, 0);
     let wide = Opening {
         card: 1048576,
@@ -92,13 +100,17 @@ fn blocks() {
     opening(b"block 131072", pool(131072, 3, 131072));
 }
 
-// The pool: count, capacity, and exactly their product of bytes.
-fn pools() {
+// The pool's count of buffers.
+fn buffers() {
     opening(b"buffers 0", pool(512, 0, 2048));
     opening(b"buffers 1", pool(512, 1, 2048));
     opening(b"buffers 4096", pool(512, 4096, 2048));
     opening(b"buffers 4096 of 65536", pool(512, 4096, 65536));
     opening(b"buffers 4097", pool(512, 4097, 2048));
+}
+
+// The pool: capacity, and exactly count × capacity of bytes.
+fn pools() {
     opening(b"capacity 0", pool(512, 3, 0));
     opening(b"capacity 2304, off the block", pool(512, 3, 2304));
     opening(b"capacity 66048", pool(512, 3, 66048));
@@ -107,17 +119,26 @@ fn pools() {
     lengths(b"a pool one byte longer", Given { pool: 6145, ..g });
 }
 
-// Each part of the row memory one short, some longer, and all of no length.
-fn memory() {
+// The rows and the store one short, and longer.
+fn rows_and_store() {
     let g = lent(figures());
     lengths(b"rows one short", Given { rows: 1, ..g });
     lengths(b"rows longer", Given { rows: 50, ..g });
     lengths(b"store one word short", Given { store: 117, ..g });
     lengths(b"store longer", Given { store: 123, ..g });
+}
+
+// Each other part of the row memory one short.
+fn memory() {
+    let g = lent(figures());
     lengths(b"free one word short", Given { free: 1, ..g });
     lengths(b"ready one word short", Given { ready: 32, ..g });
     lengths(b"owners one word short", Given { owners: 2, ..g });
     lengths(b"a plan one word short", Given { plan: 69, ..g });
+}
+
+// All of no length.
+fn nothing() {
     let none = Given {
         rows: 0,
         store: 0,
@@ -225,10 +246,15 @@ fn turn() {
 }
 
 fn main() {
+    depths();
     numbers();
     blocks();
+    largest_blocks();
+    buffers();
     pools();
+    rows_and_store();
     memory();
+    nothing();
     regions();
     runs();
     cards();

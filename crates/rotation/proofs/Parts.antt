@@ -7,53 +7,9 @@ use native.Mathlib.Nat.{le-antisymm}
 use native.Mathlib.Numerals.{add-one}
 use native.Mathlib.Omega.{arith}
 use lib.ListN.{length, take, drop, getD, set, length-append, length-take, length-drop, take-append-drop, drop-of-length-le}
-use lib.Seq.{length-take-le, take-all, take-suc, drop-cons, take-append-le, getD-drop, take-take, drop-drop, take-add, set-at, take-at, drop-at, getD-at, paste, slice-empty, slice-cons, length-slice}
+use lib.Seq.{length-take-le, take-all, take-suc, drop-cons, getD-drop, take-take, drop-drop, take-add, set-at, take-at, drop-at, getD-at, slice-empty, slice-cons, length-slice}
 use Rattle.rotation.specs.Exchange.{exchanged, Next}
-
--- a copy through `held`: h is what it held before and h₁ what it holds between, p is the place that was copied to
-pub hopped : (s h h₁ p : List ℕ) (from to : ℕ) → h₁ ≡ take (from + length h - from) (drop from s) → length h₁ ≡ length h → p ≡ h₁
-    → take to s ++ (p ++ drop (to + length h₁ - to) (drop to s)) ≡ paste s to (drop from s) (length h)
-hopped s h h₁ p from to e n q =
-    let there : from + length h - from ≡ length h = omega arith in
-    let back : to + length h₁ - to ≡ length h = omega arith in
-    let x : p ≡ take (length h) (drop from s) = q ∙ e ∙ ap (λ (m : ℕ). take m (drop from s)) there in
-    let y : drop (to + length h₁ - to) (drop to s) ≡ drop (to + length h) s = ap (λ (m : ℕ). drop m (drop to s)) back ∙ drop-drop (length h) to s in
-    (λ i. take to s ++ (x i ++ y i)) ∙ sym (append-assoc (take to s) (take (length h) (drop from s)) (drop (to + length h) s))
-
--- a hop to the left takes the bytes moved so far to c bytes more
-pub left-hop : (l d : List ℕ) (k at c : ℕ) → at + k ≤ length l → d ≡ take at (drop k l) ++ drop at l
-    → paste d at (drop (at + k) d) c ≡ take (at + c) (drop k l) ++ drop (at + c) l
-left-hop l d k at c h e =
-    let long : length (take at (drop k l)) ≡ at = simp (length-take, length-drop) (omega arith) in
-    let front : take at d ≡ take at (drop k l) = ap (take at) e ∙ take-at (take at (drop k l)) (drop at l) at long in
-    let rest : drop at d ≡ drop at l = ap (drop at) e ∙ drop-at (take at (drop k l)) (drop at l) at long in
-    let swap : at + k ≡ k + at = omega arith in
-    let moved : drop (at + k) d ≡ drop at (drop k l) = sym (drop-drop k at d) ∙ ap (drop k) rest ∙ drop-drop k at l ∙ ap (λ (n : ℕ). drop n l) swap ∙ sym (drop-drop at k l) in
-    let past : drop (at + c) d ≡ drop (at + c) l = sym (drop-drop c at d) ∙ ap (drop c) rest ∙ drop-drop c at l in
-    (λ i. (front i ++ take c (moved i)) ++ past i) ∙ ap (λ (r : List ℕ). r ++ drop (at + c) l) (sym (take-add at c (drop k l)))
-
--- the c bytes from e on, cut from either side
-pub window : (e c : ℕ) (l : List ℕ) → e ≤ length l → take c (drop e l) ≡ drop e (take (e + c) l)
-window e c l h = sym (ap (drop e) (take-add e c l) ∙ drop-at (take e l) (take c (drop e l)) e (length-take-le e l h))
-
--- a hop to the right, from e to e + k, takes the j bytes moved so far to c bytes more
-pub right-hop : (l d : List ℕ) (k e c j : ℕ) → (e + c) + k ≤ length l → d ≡ take ((e + c) + k) l ++ take j (drop (e + c) l)
-    → paste d (e + k) (drop e d) c ≡ take (e + k) l ++ take (c + j) (drop e l)
-right-hop l d k e c j h q =
-    let head : List ℕ = take ((e + c) + k) l in
-    let tail : List ℕ = take j (drop (e + c) l) in
-    let long : length head ≡ (e + c) + k = length-take-le ((e + c) + k) l h in
-    let same : (n : ℕ) → n ≤ (e + c) + k → take n d ≡ take n l =
-    λ n b. ap (take n) q ∙ take-append-le n head tail (omega arith) ∙ take-take n ((e + c) + k) l b in
-    let within : length d ≡ (e + c) + k + length tail = ap length q ∙ length-append head tail ∙ ap (λ (n : ℕ). n + length tail) long in
-    let piece : take c (drop e d) ≡ take c (drop e l) =
-    window e c d (omega arith) ∙ ap (drop e) (same (e + c) (omega arith)) ∙ sym (window e c l (omega arith)) in
-    let at : e + k + c ≡ (e + c) + k = omega arith in
-    let past : drop (e + k + c) d ≡ tail = ap (λ (n : ℕ). drop n d) at ∙ ap (drop ((e + c) + k)) q ∙ drop-at head tail ((e + c) + k) long in
-    (λ i. (same (e + k) (omega arith) i ++ piece i) ++ past i)
-    ∙ append-assoc (take (e + k) l) (take c (drop e l)) tail
-    ∙ ap (λ (r : List ℕ). take (e + k) l ++ r)
-    (ap (λ (r : List ℕ). take c (drop e l) ++ take j r) (sym (drop-drop c e l)) ∙ sym (take-add c j (drop e l)))
+use Rattle.shift.proofs.Parts.{rot, to-end, past-end}
 
 -- two bytes of a list exchange places
 swap-two : (p m z : List ℕ) (x y i j : ℕ) → length p ≡ i → length (p ++ (x ∷ m)) ≡ j
@@ -94,44 +50,6 @@ exchange-next l d k i below within e =
     let more₄ : drop (k + (i + 1)) l ≡ z = ap (λ (n : ℕ). drop n l) next in
     let there : exchanged k (i + 1) l ≡ p ++ (y ∷ ((q ++ r) ++ (x ∷ z))) = (λ t. more₁ t ++ (more₂ t ++ (more₃ t ++ more₄ t))) ∙ simp append-assoc in
     swap-two p (q ++ r) z x y i (k + i) pi j d parts ∙ sym there
-
--- all of a list turned left by k
-abbrev pub rot : ℕ → List ℕ → List ℕ
-rot k l = drop k l ++ take k l
-
--- what stands at the front of a list whose first n bytes were replaced
-pub front-held : (d e : List ℕ) (n : ℕ) → n ≤ length d → length e ≡ length (take n d) → take n (e ++ drop n d) ≡ e
-front-held d e n h long = take-at e (drop n d) n (long ∙ length-take-le n d h)
-
--- a part that reaches to the end is what lies from its start on, and nothing lies past it
-pub to-end : (s : List ℕ) (at : ℕ) → take (length s - at) (drop at s) ≡ drop at s
-to-end s at = take-all (length s - at) (drop at s) (simp length-drop (omega arith))
-
-pub end-long : (s : List ℕ) (at : ℕ) → length (take (length s - at) (drop at s)) ≡ length s - at
-end-long s at = ap length (to-end s at) ∙ length-drop at s
-
-pub past-end : (s p : List ℕ) (at : ℕ) → take at s ++ (p ++ drop (length s - at) (drop at s)) ≡ take at s ++ p
-past-end s p at =
-    ap (λ (r : List ℕ). take at s ++ (p ++ r)) (drop-of-length-le (drop at s) {i = length s - at} (simp length-drop (omega arith)))
-    ∙ ap (λ (r : List ℕ). take at s ++ r) (append-nil p)
-
--- the saved first k bytes p put behind the others, which were moved to the front
-pub put-behind : (l s p : List ℕ) (k : ℕ) → k ≤ length l → s ≡ drop k l ++ drop (length l - k) l → p ≡ take k l
-    → take (length l - k) s ++ (p ++ drop (length s - (length l - k)) (drop (length l - k) s)) ≡ rot k l
-put-behind l s p k h e q =
-    past-end s p (length l - k)
-    ∙ (λ i. take (length l - k) (e i) ++ q i)
-    ∙ ap (λ (r : List ℕ). r ++ take k l) (take-at (drop k l) (drop (length l - k) l) (length l - k) (length-drop k l))
-
--- the saved bytes p from k on put before the others, which were moved to the back
-pub put-before : (l s p : List ℕ) (k : ℕ) → k ≤ length l → s ≡ take (length l - k) l ++ take (length l - (length l - k)) l → p ≡ drop k l
-    → p ++ drop (length l - k) s ≡ rot k l
-put-before l s p k h e q =
-    let back : length l - (length l - k) ≡ k = omega arith in
-    (λ i. q i ++ drop (length l - k) (e i))
-    ∙ ap (λ (r : List ℕ). drop k l ++ r)
-    (drop-at (take (length l - k) l) (take (length l - (length l - k)) l) (length l - k) (length-take-le (length l - k) l (omega arith))
-    ∙ ap (λ (n : ℕ). take n l) back)
 
 -- once the front has been exchanged with the bytes at k it holds what belongs there, and the rest is cut as it came
 exchanged-front : (l : List ℕ) (k m : ℕ) → k + m ≤ length l → take m (exchanged k m l) ≡ take m (drop k l)

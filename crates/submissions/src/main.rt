@@ -2,130 +2,13 @@
 // replies. The first lists have no reply from 11 on and no unknown handle. They are printed as traces, each with its replies as comments, for a
 // comparison with the Rust: each line `# list` begins a trace of its own.
 use drawing::Drawn;
-use drawing::Tally;
-use host::CalledIn;
-use model::Call;
-use model::Counts;
-use model::Request;
-use model::Row;
 use submitter::Opened;
+use tally::Tally;
 
-// How many openings there are, how many of them are printed, and how many requests each gets.
+// How many openings there are, and how many of them are printed.
 const OPENINGS: u64 = 256;
 
 const PRINTED: u64 = 16;
-
-const REQUESTS: u64 = 24;
-
-// The table, the drawing and what was said so far.
-struct Going {
-    rows: [Row; 64],
-    counts: Counts,
-    seed: u64,
-    tally: Tally,
-}
-
-// A call that is lent all of the pool, or a byte less, so that the reply is 13.
-fn lent_call(
-    call: Call,
-    all: bool,
-    counts: Counts,
-    rows: [Row; 64],
-    store: &mut [u64],
-    free: &mut [u64],
-    ready: &mut [u64],
-    owners: &mut [u64],
-    pool: &mut [u8],
-) -> CalledIn {
-    let size = drawing::lent(pool.len(), all);
-    host::call_in(
-        call,
-        counts,
-        rows,
-        store,
-        free,
-        ready,
-        owners,
-        &mut pool[..size],
-    )
-}
-
-// A request as a read or a write.
-fn call_of(read: bool, q: Request) -> Call {
-    if read {
-        return Call::ReadPage(q);
-    }
-    Call::Write(q)
-}
-
-// One request is drawn and made, and its reply told; one in 32 that are not printed is lent another length of pool.
-fn submit(
-    g: Going,
-    d: Drawn,
-    shown: bool,
-    store: &mut [u64],
-    free: &mut [u64],
-    ready: &mut [u64],
-    owners: &mut [u64],
-    pool: &mut [u8],
-) -> Going {
-    let rows = g.rows;
-    let counts = g.counts;
-    let tally = g.tally;
-    let q = drawing::draw_request(d, g.seed, counts.live, shown);
-    let read = drawing::pick(g.seed, 12, 1) == 1;
-    let all = shown || 0 < drawing::pick(g.seed, 13, 31);
-    let call = call_of(read, q);
-    let c = lent_call(call, all, counts, rows, store, free, ready, owners, pool);
-    let reply = c.reply;
-    let held = c.rows;
-    let counted = c.counts;
-    if shown {
-        drawing::say_request(read, q);
-        drawing::say_reply(reply);
-    }
-    Going {
-        rows: held,
-        counts: counted,
-        seed: drawing::later(g.seed, 16),
-        tally: drawing::tallied(tally, reply),
-    }
-}
-
-// The requests of one opening; a list that is printed ends when all buffers are taken.
-fn submit_all(
-    g: Going,
-    d: Drawn,
-    shown: bool,
-    store: &mut [u64],
-    free: &mut [u64],
-    ready: &mut [u64],
-    owners: &mut [u64],
-    pool: &mut [u8],
-) -> Going {
-    let o = d.opening;
-    let mut going = g;
-    let mut i: u64 = 0;
-    while i < REQUESTS {
-        let spent = going.counts;
-        if shown && o.buffers <= spent.live {
-            return going;
-        }
-        going = submit(going, d, shown, store, free, ready, owners, pool);
-        i += 1;
-    }
-    going
-}
-
-// An open table before its first request.
-fn begun(rows: [Row; 64], counts: Counts, seed: u64, tally: Tally) -> Going {
-    Going {
-        rows,
-        counts,
-        seed: drawing::later(seed, 80),
-        tally,
-    }
-}
 
 // One opening and its requests; a drawn opening that breaks a rule is counted and left.
 fn run_list(d: Drawn, seed: u64, shown: bool, tally: Tally) -> Tally {
@@ -149,11 +32,11 @@ fn run_list(d: Drawn, seed: u64, shown: bool, tally: Tally) -> Tally {
     let held = opened.rows;
     let table = opened.opened;
     match table {
-        Opened::No(_) => drawing::refused(tally),
+        Opened::No(_) => tally::refused(tally),
         Opened::Table(counts) => {
             let lent = drawing::pool_size(d);
-            let after = submit_all(
-                begun(held, counts, seed, tally),
+            let after = submitting::submit_all(
+                submitting::begun(held, counts, seed, tally),
                 d,
                 shown,
                 &mut store,
@@ -169,18 +52,18 @@ fn run_list(d: Drawn, seed: u64, shown: bool, tally: Tally) -> Tally {
 
 // All lists, one after the other, and what was said in all.
 fn main() {
-    let mut tally = drawing::none();
+    let mut tally = tally::none();
     let mut k: u64 = 0;
     while k < OPENINGS {
         let shown = k < PRINTED;
         let seed = drawing::later(k * 7919 + 1, 3);
         let d = drawing::draw_opening(seed, shown);
         if shown {
-            drawing::say_list(k);
-            drawing::say_opening(d);
+            saying::say_list(k);
+            saying::say_opening(d);
         }
         tally = run_list(d, seed, shown, tally);
         k += 1;
     }
-    drawing::say_total(tally);
+    saying::say_total(tally);
 }

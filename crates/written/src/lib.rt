@@ -26,7 +26,10 @@ pub fn is_written(s: Split, answer: Answer, back: bool) -> bool
     ensures { λ r. ⌜ r ≡ isWritten s answer back ⌝ }
 {
     match answer {
-        Answer::Count(n) => settle::both(settle::both(s.done <= s.total, n == settle::left(s)), back),
+        Answer::Count(n) => settle::both(
+            settle::both(s.done <= s.total, n == settle::left(s)),
+            back,
+        ),
         _ => false,
     }
 }

@@ -9,7 +9,8 @@ use lib.ListN.{length, take, drop}
 use borrow.Author.Needs.{needs}
 use borrow.Rule.Slice.PartMut.{same-len-mid}
 use Rattle.rotation.specs.Exchange.{Next}
-use Rattle.rotation.proofs.Parts.{rot, to-end, end-long, past-end, step}
+use Rattle.shift.proofs.Parts.{rot, to-end, end-long, past-end}
+use Rattle.rotation.proofs.Parts.{step}
 use Rattle.rotation.proofs.rotate.Statement.{statement}
 use Rattle.rotation.proofs.rotate.Tie as tie
 
