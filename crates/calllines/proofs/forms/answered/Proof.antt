@@ -1,4 +1,5 @@
 -- `calllines::answered` meets its contract: its parts are those of the definitions.
+use mathlib.Core.Path.{_∙_}
 use Rattle.calllines.specs.Said.{isAnswered, answerIn}
 use borrow.Author.Needs.{needs}
 use Rattle.calllines.proofs.forms.answered.Statement.{statement}
@@ -30,7 +31,10 @@ checked-requires c κs = search needs
 
 returns : tie.Need-returns
 unfolding isAnswered answerIn
-returns c = cc
+returns c =
+    let fit = c .before in
+    c .checked .ensures
+    ∙ rw (fit .both2 .ensures, fit .before .both .ensures, fit .before .before .is-flag .ensures, fit .before .before .before .are-numbers .ensures, fit .before .before .before .before .flag-in .ensures, fit .before .before .before .before .before .value-in2 .ensures, fit .before .before .before .before .before .before .value-in .ensures)
 
 pub answered-spec : {M : Type 1} → statement M
 answered-spec =

@@ -30,7 +30,12 @@ checked-requires : tie.Need-checked-requires
 checked-requires c κs = search needs
 
 returns : tie.Need-returns
-returns c = cc (unknown-line (c .before .before .before .before .before .before .before .before .before .before .args .text .now) (c .before .before .before .before .before .before .before .before .before .before .pre .0) (c .before .before .before .before .before .before .before .before .before .before .pre .1) (sym (c .before .before .is-word .ensures) ∙ c .before .if1 .taken))
+returns c =
+    let fit = c .before .before .before .before in
+    let start = fit .before .before .before .before .before .before in
+    c .checked .ensures
+    ∙ rw (fit .both .ensures, fit .before .is-cause .ensures, fit .before .before .are-numbers .ensures, fit .before .before .before .cause-in .ensures, fit .before .before .before .before .value-in .ensures)
+    (unknown-line (start .args .text .now) (start .pre .0) (start .pre .1) (sym (c .before .before .is-word .ensures) ∙ c .before .if1 .taken))
 
 slice-aggregate-is-word-2 : tie.Need-slice-aggregate-is-word-2
 slice-aggregate-is-word-2 c = search needs

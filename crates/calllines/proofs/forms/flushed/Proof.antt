@@ -1,4 +1,5 @@
 -- `calllines::flushed` meets its contract: the row of its word is the one that fits, and its parts are the row's.
+use mathlib.Core.Path.{_∙_}
 use Rattle.calllines.proofs.Table.{need-line}
 use borrow.Author.Needs.{needs}
 use Rattle.calllines.proofs.forms.flushed.Statement.{statement}
@@ -32,7 +33,12 @@ checked-requires : tie.Need-checked-requires
 checked-requires c κs = search needs
 
 returns : tie.Need-returns
-returns c = cc (need-line (c .before .before .before .before .before .before .before .before .before .before .args .text .now) (c .before .before .before .before .before .before .before .before .before .before .pre .0) (c .before .before .before .before .before .before .before .before .before .before .pre .1))
+returns c =
+    let fit = c .before in
+    let start = fit .before .before .before .before .before .before .before .before .before in
+    c .checked .ensures
+    ∙ rw (fit .both2 .ensures, fit .before .is-word .ensures, fit .before .before .before .both .ensures, fit .before .before .before .before .is-number .ensures, fit .before .before .before .before .before .are-numbers .ensures, fit .before .before .before .before .before .before .value-in2 .ensures, fit .before .before .before .before .before .before .before .value-in .ensures)
+    (need-line (start .args .text .now) (start .pre .0) (start .pre .1))
 
 pub flushed-spec : {M : Type 1} → statement M
 flushed-spec =

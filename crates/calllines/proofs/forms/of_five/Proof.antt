@@ -15,7 +15,7 @@ owned-requires : tie.Need-owned-requires
 owned-requires c κs = search needs
 
 returns : tie.Need-returns
-returns c = cc (write-line (c .before .before .before .before .before .args .text .now) (c .before .before .before .before .before .pre) (sym (c .before .before .is-word .ensures) ∙ c .before .if1 .taken))
+returns c = c .owned .ensures ∙ write-line (c .before .before .before .before .before .args .text .now) (c .before .before .before .before .before .pre) (sym (c .before .before .is-word .ensures) ∙ c .before .if1 .taken)
 
 slice-aggregate-is-word-2 : tie.Need-slice-aggregate-is-word-2
 slice-aggregate-is-word-2 c = search needs
@@ -27,7 +27,7 @@ owned-requires-2 : tie.Need-owned-requires-2
 owned-requires-2 c κs = search needs
 
 returns-2 : tie.Need-returns-2
-returns-2 c = cc (read-line (c .before .before .before .before .before .before .before .before .args .text .now) (c .before .before .before .before .before .before .before .before .pre) (sym (c .before .before .is-word2 .ensures) ∙ c .before .if2 .taken))
+returns-2 c = c .owned2 .ensures ∙ read-line (c .before .before .before .before .before .before .before .before .args .text .now) (c .before .before .before .before .before .before .before .before .pre) (sym (c .before .before .is-word2 .ensures) ∙ c .before .if2 .taken)
 
 slice-aggregate-is-word-3 : tie.Need-slice-aggregate-is-word-3
 slice-aggregate-is-word-3 c = search needs

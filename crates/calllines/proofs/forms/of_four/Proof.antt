@@ -21,7 +21,12 @@ answered-requires : tie.Need-answered-requires
 answered-requires c κs = search needs
 
 returns : tie.Need-returns
-returns c = cc (refused-line (c .before .before .before .before .before .before .before .args .text .now) (c .before .before .before .before .before .before .before .pre) (sym (c .before .before .before .before .is-word .ensures) ∙ c .before .before .before .if1 .taken))
+returns c =
+    let fit = c .before in
+    let start = fit .before .before .before .before .before .before in
+    c .answered .ensures
+    ∙ rw (fit .is-word2 .ensures)
+    (refused-line (start .args .text .now) (start .pre) (sym (c .before .before .before .before .is-word .ensures) ∙ c .before .before .before .if1 .taken))
 
 slice-aggregate-is-word-3 : tie.Need-slice-aggregate-is-word-3
 slice-aggregate-is-word-3 c = search needs

@@ -40,7 +40,12 @@ answered-requires : tie.Need-answered-requires
 answered-requires c κs = search needs
 
 returns-2 : tie.Need-returns-2
-returns-2 c = cc (error-line (c .before .before .before .before .before .before .before .before .before .before .before .before .before .args .text .now) (c .before .before .before .before .before .before .before .before .before .before .before .before .before .pre) (sym (c .before .before .before .before .before .before .before .before .before .before .is-word .ensures) ∙ not-false _ (c .before .before .before .before .before .before .before .before .before .if1 .left)) (sym (c .before .before .is-word2 .ensures) ∙ c .before .if2 .taken))
+returns-2 c =
+    let fit = c .before .before .before .before in
+    let start = fit .before .before .before .before .before .before .before .before .before in
+    c .answered .ensures
+    ∙ rw (fit .both .ensures, fit .before .is-flag .ensures, fit .before .before .is-raw .ensures, fit .before .before .before .flag-in .ensures, fit .before .before .before .before .raw-in .ensures)
+    (error-line (start .args .text .now) (start .pre) (sym (c .before .before .before .before .before .before .before .before .before .before .is-word .ensures) ∙ not-false _ (c .before .before .before .before .before .before .before .before .before .if1 .left)) (sym (c .before .before .is-word2 .ensures) ∙ c .before .if2 .taken))
 
 slice-aggregate-is-word-3 : tie.Need-slice-aggregate-is-word-3
 slice-aggregate-is-word-3 c = search needs

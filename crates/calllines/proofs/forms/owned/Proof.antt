@@ -1,4 +1,5 @@
 -- `calllines::owned` meets its contract: its parts are those of the definition.
+use mathlib.Core.Path.{_∙_}
 use Rattle.calllines.specs.Said.{ownIn}
 use borrow.Author.Needs.{needs}
 use Rattle.calllines.proofs.forms.owned.Statement.{statement}
@@ -33,7 +34,10 @@ checked-requires c κs = search needs
 
 returns : tie.Need-returns
 unfolding ownIn
-returns c = cc
+returns c =
+    let fields = c .before in
+    c .checked .ensures
+    ∙ rw (fields .value-in4 .ensures, fields .before .flag-in .ensures, fields .before .before .value-in3 .ensures, fields .before .before .before .value-in2 .ensures, fields .before .before .before .before .value-in .ensures, fields .before .before .before .before .before .both .ensures, fields .before .before .before .before .before .before .is-flag .ensures, fields .before .before .before .before .before .before .before .are-numbers .ensures)
 
 pub owned-spec : {M : Type 1} → statement M
 owned-spec =

@@ -1,4 +1,5 @@
 -- `calllines::poisoned` meets its contract: the row of its word is the one that fits, and its parts are the row's.
+use mathlib.Core.Path.{_∙_}
 use Rattle.calllines.proofs.Table.{poison-line}
 use borrow.Author.Needs.{needs}
 use Rattle.calllines.proofs.forms.poisoned.Statement.{statement}
@@ -14,7 +15,12 @@ checked-requires : tie.Need-checked-requires
 checked-requires c κs = search needs
 
 returns : tie.Need-returns
-returns c = cc (poison-line (c .before .before .before .before .args .text .now) (c .before .before .before .before .pre .0) (c .before .before .before .before .pre .1))
+returns c =
+    let fit = c .before in
+    let start = fit .before .before .before in
+    c .checked .ensures
+    ∙ rw (fit .cause-in .ensures, fit .before .is-cause .ensures)
+    (poison-line (start .args .text .now) (start .pre .0) (start .pre .1))
 
 pub poisoned-spec : {M : Type 1} → statement M
 poisoned-spec = tie.close (tie.spec is-cause-requires cause-in-requires checked-requires returns)

@@ -1,5 +1,4 @@
 -- `texts::put_cause` meets its contract: the second part stands behind the first.
-use mathlib.Core.Path.{_∙_}
 use native.Mathlib.Omega.{arith}
 use lib.ListN.{take}
 use Rattle.texts.proofs.Joined.{joined}
