@@ -1,10 +1,10 @@
 // The requests of one opening of the program submissions: each is drawn and made, and its reply told. Nothing is promised of it but that it is safe and ends.
 use drawing::Drawn;
 use host::CalledIn;
+use model::Call;
 use model::Counts;
 use model::Request;
 use model::Row;
-use model::Call;
 use tally::Tally;
 
 // How many requests an opening gets.
