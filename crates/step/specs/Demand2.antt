@@ -1,6 +1,6 @@
 -- Demand 2, by POSIX: from any table that calls have left, "the pieces of an accepted page operation, each taken whole with its buffer back and no other
 -- operation writing its bytes meanwhile, act together like one transfer of every byte to or from its mapped card offset, and touch no other byte of card or
--- pool". Stated over the table's own replies, rows and pool, with any other calls in between. Proved in the crate demands (demand2).
+-- pool". Stated over the table's own replies, rows and pool, with any other calls in between. Proved in proofs/Demand2.antt (demand2).
 use mathlib.Core.Path.{_≡_}
 use mathlib.Core.Logic.{_≢_}
 use mathlib.Core.Bool.{Bool, true, false}

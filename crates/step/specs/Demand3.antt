@@ -4,7 +4,7 @@
 -- alone; the set of free rows, the generations and the card's bytes, equal at first, agree; free plus live rows equal the depth after every call."
 -- An answer under a live tag is taken to be for the piece that the row awaits: all pieces of an operation have one tag, and a tag is issued again after a refused
 -- first piece, so a second answer to an earlier piece or to an earlier use of the tag cannot be told apart (only a count above the piece is caught, 16).
--- Beside it the projection, of any history: an operation in the table is the operation alone. Proved in the crate demands (Demand3: demand3; Projection: projection).
+-- Beside it the projection, of any history: an operation in the table is the operation alone. Proved in proofs/ (Demand3: demand3; Projection: projection).
 use mathlib.Core.Path.{_≡_}
 use mathlib.Core.Logic.{_≢_}
 use mathlib.Core.Bool.{Bool, true, false}

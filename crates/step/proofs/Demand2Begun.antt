@@ -23,27 +23,27 @@ use Rattle.model.specs.declared.Asked.the-variants.{Yes, No}
 use Rattle.model.specs.declared.Call.the-variants.{Write, ReadPage}
 use Rattle.model.specs.State.{State, freed}
 use Rattle.model.specs.Opening.{Plan}
 use Rattle.step.specs.Questions.{regionAt}
 use Rattle.step.specs.Rules.{firstOf, lastOf}
 use Rattle.step.specs.Step.{startOf, endOf, queueTag, topOf, rowAt, rowOf, generationOf, isLive, bytesAt, planOf, claimedBy, accepted, submitted, verdictOf, writeVerdict, readVerdict, called, eqLengths, step}
 use Rattle.step.specs.Sound.{Sound}
 use Rattle.step.specs.Laws.{Made.calls, Event, leave, done, next, run}
 use Rattle.step.specs.Lists.{HostMay, Hosted}
 use Rattle.step.specs.Alone.{tagGiven}
 use Rattle.step.specs.Demand3.{Start, openedBy, after, alonesAfter}
 use Rattle.step.specs.Demand2.{bufferThen}
 use Rattle.step.proofs.Picked.{by-pick}
 use Rattle.step.proofs.Answers.{Passed, write-passed, read-passed}
 use Rattle.step.proofs.Taken.{top-row}
 use Rattle.step.proofs.Buffers.{bytes-length}
 use Rattle.step.proofs.Histories.{leaves, keeps-next}
 use Rattle.step.proofs.Laws.{keeps}
 use Rattle.step.proofs.AloneTags.{clash, small-row, row-of-tag, generation-of-tag, names-by}
 use Rattle.step.proofs.ProjectionFixed.{Fixed, next-plans}
-use Rattle.demands.proofs.ProjectionReached.{Reached}
-use Rattle.demands.proofs.Projection.{reached-after}
+use Rattle.step.proofs.ProjectionReached.{Reached}
+use Rattle.step.proofs.Projection.{reached-after}
 use Rattle.step.proofs.Demand2Fate.{pages}
-use Rattle.demands.proofs.Demand2Task.{Task, hostsOf, Stage.piece, InRow, Open}
+use Rattle.step.proofs.Demand2Task.{Task, hostsOf, Stage.piece, InRow, Open}
 
 -- ---- the call
 

@@ -4,13 +4,13 @@ use mathlib.Core.Path.{_≡_, sym, subst}
 use mathlib.Core.Option.{some}
 use mathlib.Core.List.{List, [], _∷_, _++_}
 use Prim.Native.Nat.{ℕ}
 use Rattle.step.specs.Rules.{Input}
 use Rattle.step.specs.Laws.{Event}
 use Rattle.step.specs.Lists.{brought, Hosted, HostMay}
 use Rattle.step.specs.Alone.{Alones, noneYet, alones}
 use Rattle.step.specs.Demand3.{Start, openedBy, after, alonesAfter, StepsAlone, Projection}
-use Rattle.demands.proofs.ProjectionReached.{Reached, reached-opened, reached-run, nextAlone, alone-append}
-use Rattle.demands.proofs.ProjectionSteps.{steps-alone}
+use Rattle.step.proofs.ProjectionReached.{Reached, reached-opened, reached-run, nextAlone, alone-append}
+use Rattle.step.proofs.ProjectionSteps.{steps-alone}
 
 -- the operations alone after one more event
 one-more : (x : Start) (h : List Event) (e : Event) → alonesAfter x (h ++ (e ∷ [])) ≡ nextAlone x (after x h) (alonesAfter x h) e

@@ -9,17 +9,17 @@ use Rattle.model.specs.declared.Awaits.{Awaits}
 use Rattle.model.specs.declared.Awaits.the-variants.{Nothing, Piece, Flush}
 use Rattle.model.specs.declared.Row.{Row}
 use Rattle.model.specs.State.{State}
 use Rattle.step.specs.Questions.{regionAt}
 use Rattle.step.specs.Rules.{Input, Input.answered, Input.flushed}
 use Rattle.step.specs.Step.{rowAt}
 use Rattle.step.specs.Laws.{Event, leave, next, replyTo}
 use Rattle.step.specs.Lists.{planAt, HostMay, Hosted}
 use Rattle.step.specs.Alone.{Alones}
 use Rattle.step.specs.Demand3.{Start, isListed, FairTo, Fair, Fits}
-use Rattle.demands.proofs.ProjectionReached.{Reached, nextAlone, reached-left, reached-next}
-use Rattle.demands.proofs.ListsBrought.{listed-is}
-use Rattle.demands.proofs.ListsCame.{Came, FairCall, came}
-use Rattle.demands.proofs.ListsRows.{Moved, row-moved}
+use Rattle.step.proofs.ProjectionReached.{Reached, nextAlone, reached-left, reached-next}
+use Rattle.step.proofs.ListsBrought.{listed-is}
+use Rattle.step.proofs.ListsCame.{Came, FairCall, came}
+use Rattle.step.proofs.ListsRows.{Moved, row-moved}
 
 -- the host's writes do not bear on what is fair
 fair-left : (s : State) (pool : List ℕ) (r : Row) (a : Awaits) (i : Input) → FairTo s r a i → FairTo (leave s pool) r a i

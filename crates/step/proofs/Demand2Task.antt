@@ -22,14 +22,14 @@ use Rattle.model.specs.declared.Awaits.the-variants.{Piece, Flush}
 use Rattle.model.specs.declared.Row.{Row}
 use Rattle.model.specs.declared.Request.{Request}
 use Rattle.model.specs.State.{State}
 use Rattle.step.specs.Questions.{regionAt}
 use Rattle.step.specs.Rules.{firstOf, lastOf, pieceOf, pieceLength}
 use Rattle.step.specs.Step.{rowAt, rowOf, names, bytesAt, planOf}
 use Rattle.step.specs.Sound.{Sound}
 use Rattle.step.specs.Lists.{loose, planAt, leftIn}
 use Rattle.step.specs.Demand2.{HoldsCard}
-use Rattle.demands.proofs.Demand2Bytes.{lying, lying-front, piece-read}
+use Rattle.step.proofs.Demand2Bytes.{lying, lying-front, piece-read}
 use Rattle.step.proofs.Demand2Fate.{pages}
 
 -- ---- the operation
 

@@ -13,20 +13,20 @@ use Rattle.completion.specs.declared.Reply.{Reply}
 use Rattle.completion.specs.declared.Reply.the-variants.{No as turnedAway}
 use Rattle.model.specs.declared.Row.{Row}
 use Rattle.model.specs.State.{State, freed}
 use Rattle.step.specs.Rules.{Input, Fate, Fate.away, Fate.awaits, Fate.ends, Fate.rejected}
 use Rattle.step.specs.Step.{rowAt, rowOf, raised, names, bytesAt, completionOf, going, freeing, settled, fateOf, underTag, eqLengths}
 use Rattle.step.specs.Laws.{Event, leave, done, next, replyTo}
 use Rattle.step.specs.Lists.{brought, isAway, Completed, HostMay}
 use Rattle.step.specs.Alone.{Course, Course.isOpen, Course.completed, Course.wasRefused, Alones, onward, aloneFate, feeds, heard, aloneNext}
 use Rattle.step.specs.Demand3.{Start, plansOf, StepsAlone}
 use Rattle.step.proofs.AloneTags.{clash, names-live}
 use Rattle.step.proofs.Buffers.{bytes-length}
 use Rattle.step.proofs.Fates.{Fitting, FateFits, fate-fits}
-use Rattle.demands.proofs.ListsBrought.{Brings, brings}
+use Rattle.step.proofs.ListsBrought.{Brings, brings}
 use Rattle.step.proofs.ProjectionHost.{live-in-table}
-use Rattle.demands.proofs.ProjectionSet.{put-here, bytes-here}
-use Rattle.demands.proofs.ProjectionFed.{met}
-use Rattle.demands.proofs.ProjectionReached.{Reached, nextAlone, reached-left}
+use Rattle.step.proofs.ProjectionSet.{put-here, bytes-here}
+use Rattle.step.proofs.ProjectionFed.{met}
+use Rattle.step.proofs.ProjectionReached.{Reached, nextAlone, reached-left}
 
 -- ---- what becomes of the row that a tag names, beside its operation alone
 

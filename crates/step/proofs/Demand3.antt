@@ -14,22 +14,22 @@ use Rattle.posix.specs.Posix.{Card}
 use Rattle.model.specs.declared.Opening.{Opening}
 use Rattle.model.specs.declared.Row.{Row}
 use Rattle.model.specs.State.{State, freed}
 use Rattle.step.specs.Step.{rowAt, rowOf, raised, isLive}
 use Rattle.step.specs.Sound.{times}
 use Rattle.step.specs.Laws.{Event, next, run}
 use Rattle.step.specs.Lists.{Completed, Given, given, gets, cardAfter, tagAt}
 use Rattle.step.specs.Alone.{Course, Course.isOpen, Course.completed, Course.wasRefused, Alones, noneYet}
 use Rattle.step.specs.Demand3.{Start, openedBy, after, alonesAfter, aloneAt, Fits, AllDone, Apart, GivenAlike, Mapped, isWrite, Supposed, OneEach, NoMore, Demand3}
 use Rattle.step.proofs.AloneTags.{clash, dead-awaiting, names-live, row-of-its-tag, generation-of-its-tag}
-use Rattle.demands.proofs.CardLists.{Clear, Every, write-live, cold, hot, byteAlong}
-use Rattle.demands.proofs.ListsRows.{Turned, turned-on, idle-stays}
-use Rattle.demands.proofs.ListsWalk.{behind, reached, moved, fits-hosted, hosted-take}
-use Rattle.demands.proofs.ProjectionReached.{Reached, nextAlone, runAlone, reached-run, alone-append}
-pub use Rattle.demands.proofs.Projection.{projection}
-use Rattle.demands.proofs.Projection.{reached-after}
-use Rattle.demands.proofs.QueueOrder.{count-all, queue-all, done-dead}
-use Rattle.demands.proofs.QuietCourse.{courseBy}
-use Rattle.demands.proofs.QuietLists.{doneOf, InBuffer, Through, through}
+use Rattle.step.proofs.CardLists.{Clear, Every, write-live, cold, hot, byteAlong}
+use Rattle.step.proofs.ListsRows.{Turned, turned-on, idle-stays}
+use Rattle.step.proofs.ListsWalk.{behind, reached, moved, fits-hosted, hosted-take}
+use Rattle.step.proofs.ProjectionReached.{Reached, nextAlone, runAlone, reached-run, alone-append}
+pub use Rattle.step.proofs.Projection.{projection}
+use Rattle.step.proofs.Projection.{reached-after}
+use Rattle.step.proofs.QueueOrder.{count-all, queue-all, done-dead}
+use Rattle.step.proofs.QuietCourse.{courseBy}
+use Rattle.step.proofs.QuietLists.{doneOf, InBuffer, Through, through}
 
 -- ---- the rows through a list
 

@@ -25,24 +25,24 @@ use Rattle.model.specs.declared.Asked.the-variants.{Yes, No}
 use Rattle.model.specs.declared.Call.{Call}
 use Rattle.model.specs.declared.Call.the-variants.{Write, ReadPage, Answer, Flushed, Take, SetGate, SetReadOnly, SetForced, ReportPoison}
 use Rattle.model.specs.State.{Region, State, freed, awaiting}
 use Rattle.step.specs.Questions.{regionAt}
 use Rattle.step.specs.Rules.{Input, Input.answered, Input.flushed, Fate, Fate.away, Fate.awaits, Fate.ends, Fate.rejected}
 use Rattle.step.specs.Step.{writesIn, topOf, rowAt, rowOf, names, bytesAt, raised, awaitsNow, accepted, submitted, verdictOf, writeVerdict, readVerdict, going, freeing, settled, fateOf, underTag, taken}
 use Rattle.step.specs.Step.{withRegions, withPoison, marked, withGate, withReadOnly, withForced, called, eqLengths, step}
 use Rattle.step.specs.Sound.{Sound}
 use Rattle.step.specs.Laws.{Made, Made.calls, Made.looks, Event, leave, done, next, replyTo}
 use Rattle.step.specs.Lists.{broughtBy, brought, isAway, planAt, wroteBy, tagIn, cardBy}
 use Rattle.step.specs.Demand3.{Mapped, isWrite}
 use Rattle.step.proofs.Picked.{by-pick}
 use Rattle.step.proofs.Named.{live-one}
 use Rattle.step.proofs.AloneTags.{clash, names-live, one-tag}
 use Rattle.step.proofs.Answers.{Passed, write-passed, read-passed}
 use Rattle.step.proofs.Taken.{awaits-nothing}
 use Rattle.step.proofs.Buffers.{bytes-length}
 use Rattle.step.proofs.Fates.{Fitting, FateFits, fate-fits}
 use Rattle.step.proofs.CardBytes.{wrote-away}
 use Rattle.step.proofs.ProjectionHost.{live-in-table}
-use Rattle.demands.proofs.ProjectionSet.{bytes-there}
+use Rattle.step.proofs.ProjectionSet.{bytes-there}
 
 -- ---- the card
 

@@ -23,19 +23,19 @@ use Rattle.model.specs.declared.Call.{Call}
 use Rattle.model.specs.declared.Call.the-variants.{Write, ReadPage, Answer, Flushed, Take, SetGate, SetReadOnly, SetForced, ReportPoison}
 use Rattle.model.specs.State.{Region, noRegion, State}
 use Rattle.model.proofs.Maps.{plans-length}
 use Rattle.step.specs.Questions.{regionAt}
 use Rattle.step.specs.Rules.{Input.answered, Input.flushed}
 use Rattle.step.specs.Step.{writeVerdict, readVerdict, planOf, taken, withRegions, withPoison, marked, withGate, withReadOnly, withForced, called, eqLengths, step}
 use Rattle.step.specs.Sound.{Sound}
 use Rattle.step.specs.Laws.{Made, Made.calls, Made.looks, done}
 use Rattle.step.specs.Alone.{Alones, putAt, heardCall, heard}
 use Rattle.step.specs.Demand3.{Start, plansOf, Projected}
 use Rattle.step.proofs.Answers.{write-passed, read-passed}
 use Rattle.step.proofs.ProjectionFixed.{Fixed, plans-set}
-use Rattle.demands.proofs.ProjectionSet.{put-here, put-there}
-use Rattle.demands.proofs.ProjectionRows.{projected-rows, alike-kept}
-use Rattle.demands.proofs.ProjectionFed.{projected-fed}
-use Rattle.demands.proofs.ProjectionAccepted.{projected-submitted}
+use Rattle.step.proofs.ProjectionSet.{put-here, put-there}
+use Rattle.step.proofs.ProjectionRows.{projected-rows, alike-kept}
+use Rattle.step.proofs.ProjectionFed.{projected-fed}
+use Rattle.step.proofs.ProjectionAccepted.{projected-submitted}
 
 -- ---- the calls that replace no row
 

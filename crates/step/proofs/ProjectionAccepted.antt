@@ -15,19 +15,19 @@ use Rattle.model.specs.declared.Asked.{Asked}
 use Rattle.model.specs.declared.Asked.the-variants.{Yes, No}
 use Rattle.model.specs.declared.Row.{Row}
 use Rattle.model.specs.State.{State}
 use Rattle.step.specs.Questions.{heldAt}
 use Rattle.step.specs.Step.{queueTag, topOf, rowAt, generationOf, isLive, names, claimedBy, oneMore, accepted, submitted, verdictOf}
 use Rattle.step.specs.Sound.{Sound}
 use Rattle.step.specs.Alone.{Course.isOpen, Alones, tagGiven, begins}
 use Rattle.step.specs.Demand3.{Start, Projected}
 use Rattle.step.proofs.Answers.{Passed}
 use Rattle.step.proofs.Taken.{top-row, awaits-nothing}
 use Rattle.step.proofs.Buffers.{in-pool}
 use Rattle.step.proofs.Named.{live-one}
 use Rattle.step.proofs.AloneTags.{small-row, row-of-tag, generation-of-tag, names-live, names-by}
 use Rattle.step.proofs.ProjectionFixed.{Fixed}
 use Rattle.step.proofs.ProjectionHost.{not-held}
-use Rattle.demands.proofs.ProjectionSet.{projected-set}
+use Rattle.step.proofs.ProjectionSet.{projected-set}
 
 module _ (x : Start) (s : State) (i : Sound s) (fx : Fixed x s) (a : Alones) (p : Projected s a) (k : Kind) (q : Request) where
   abbrev top : ℕ

@@ -17,17 +17,17 @@ use Rattle.model.specs.declared.Awaits.{Awaits}
 use Rattle.model.specs.declared.Awaits.the-variants.{Nothing, Piece, Flush}
 use Rattle.model.specs.declared.Row.{Row}
 use Rattle.model.specs.State.{Region, State, freed}
 use Rattle.step.specs.Questions.{regionAt}
 use Rattle.step.specs.Rules.{Input, Fate.awaits, Fate.ends}
 use Rattle.step.specs.Step.{rowAt, rowOf, raised, isLive, awaitsNow, poisonWith, going, freeing, settled, fateOf, taken}
 use Rattle.step.specs.Sound.{rangeStart, rangeEnd}
 use Rattle.step.specs.Laws.{Made, done}
 use Rattle.step.specs.Demand3.{isWrite}
 use Rattle.step.proofs.AloneTags.{freed-dead, live-in, names-live}
 use Rattle.step.proofs.Named.{one-live}
 use Rattle.step.proofs.Fates.{Follows, Onward, Fitting, FateFits, fate-fits}
-use Rattle.demands.proofs.ListsCame.{Came, Came.turned, Came.silent, Came.took, Came.goes, Came.finishes}
-use Rattle.demands.proofs.ProjectionSet.{by-row}
+use Rattle.step.proofs.ListsCame.{Came, Came.turned, Came.silent, Came.took, Came.goes, Came.finishes}
+use Rattle.step.proofs.ProjectionSet.{by-row}
 
 pub data Moved (x x′ : Row) : Type 0 where
   stays : x′ ≡ x → Moved x x′

@@ -8,13 +8,13 @@ use Rattle.layout.proofs.Tests.{not-both}
 use Rattle.posix.specs.Posix.{Card}
 use Rattle.completion.specs.declared.Completion.{Completion}
 use Rattle.model.specs.State.{State}
 use Rattle.step.specs.Step.{rowAt, rowOf, names}
 use Rattle.step.specs.Laws.{Event, next, run}
 use Rattle.step.specs.Lists.{Completed, gets, cardBy, cardAfter}
 use Rattle.step.specs.Demand2.{Served, NoPiece, PiecesDone}
 use Rattle.step.proofs.AloneTags.{clash}
-use Rattle.demands.proofs.Demand2Task.{Task, Stage, Stage.piece, Stage.flush, Open}
-use Rattle.demands.proofs.Demand2Event.{Arrived, Finished, getsOf, Came, Came.still, Came.over, came, on-card-all}
+use Rattle.step.proofs.Demand2Task.{Task, Stage, Stage.piece, Stage.flush, Open}
+use Rattle.step.proofs.Demand2Event.{Arrived, Finished, getsOf, Came, Came.still, Came.over, came, on-card-all}
 
 pub record Along (w : Task) (s : State) (es : List Event) (card : Card) : Type 0 where
   pub arrived : PiecesDone (run s es) (w .tag) → Arrived w (cardAfter s es card)

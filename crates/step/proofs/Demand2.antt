@@ -16,20 +16,20 @@ use Rattle.model.specs.declared.Kind.the-variants.{Page, Read}
 use Rattle.model.specs.declared.Request.{Request}
 use Rattle.model.specs.declared.Call.the-variants.{Write, ReadPage}
 use Rattle.model.specs.State.{State}
 use Rattle.step.specs.Questions.{regionAt}
 use Rattle.step.specs.Rules.{firstOf, lastOf}
 use Rattle.step.specs.Step.{startOf, endOf}
 use Rattle.step.specs.Laws.{Made, Made.calls, Event, leave, done, run, replyTo}
 use Rattle.step.specs.Lists.{Hosted}
 use Rattle.step.specs.Alone.{tagGiven}
 use Rattle.step.specs.Demand3.{Start, openedBy, after}
 use Rattle.step.specs.Demand2.{Served, Accepted, bufferThen, begun, Wrote, DidRead, PiecesDone, Demand2}
-use Rattle.demands.proofs.Demand2Others.{card-others, pool-others}
-use Rattle.demands.proofs.Demand2Bytes.{gathered-length, gathered-at}
+use Rattle.step.proofs.Demand2Others.{card-others, pool-others}
+use Rattle.step.proofs.Demand2Bytes.{gathered-length, gathered-at}
 use Rattle.step.proofs.Demand2Fate.{pages}
-use Rattle.demands.proofs.Demand2Task.{Task}
-use Rattle.demands.proofs.Demand2Walk.{Along, walk}
-use Rattle.demands.proofs.Demand2Begun.{Begun, begun-write, begun-read, before, may, then-length, task, opens}
+use Rattle.step.proofs.Demand2Task.{Task}
+use Rattle.step.proofs.Demand2Walk.{Along, walk}
+use Rattle.step.proofs.Demand2Begun.{Begun, begun-write, begun-read, before, may, then-length, task, opens}
 
 -- an accepted submission of a kind, with the bytes that its range is to end with
 module _ (x : Start) (h : List Event) (e : Event) (t : ℕ) (q : Request) (hosted : Hosted (openedBy x) (h ++ (e ∷ []))) (k : Kind)

@@ -22,25 +22,25 @@ use Rattle.model.specs.declared.Row.{Row}
 use Rattle.model.specs.State.{State}
 use Rattle.model.specs.Opening.{Plan}
 use Rattle.model.specs.Memory.{planIn}
 use Rattle.step.specs.Questions.{regionAt}
 use Rattle.step.specs.Rules.{Input}
 use Rattle.step.specs.Step.{queueTag, rowAt, rowOf, generationOf, raised, isLive, names, bytesAt, planOf}
 use Rattle.step.specs.Sound.{rangeStart, rangeEnd}
 use Rattle.step.specs.Laws.{Event, leave, next, replyTo}
 use Rattle.step.specs.Lists.{brought, isAway, planAt, leftIn, Given, givenAs, givenBy, given, wroteBy, tagIn, cardBy, cardAfter, HostMay}
 use Rattle.step.specs.Alone.{Course, Course.isOpen, Course.completed, Course.wasRefused, Alones}
 use Rattle.step.specs.Demand3.{Start, plansOf, Mapped, isWrite, Fits}
 use Rattle.step.proofs.AloneTags.{clash, freed-dead, tag-of, names-live, names-generation}
 use Rattle.step.proofs.CardBytes.{wrote-byte, wrote-alike, wrote-none, wrote-away}
-use Rattle.demands.proofs.ListsBrought.{brings}
-use Rattle.demands.proofs.ListsRows.{Turned, turned-on, OfBefore, of-before}
-use Rattle.demands.proofs.ListsWalk.{host-may, listed, behind, reached, moved}
+use Rattle.step.proofs.ListsBrought.{brings}
+use Rattle.step.proofs.ListsRows.{Turned, turned-on, OfBefore, of-before}
+use Rattle.step.proofs.ListsWalk.{host-may, listed, behind, reached, moved}
 use Rattle.step.proofs.ProjectionFixed.{next-plans}
-use Rattle.demands.proofs.ProjectionFed.{met}
-use Rattle.demands.proofs.ProjectionReached.{Reached, nextAlone, reached-left}
-use Rattle.demands.proofs.ProjectionSteps.{unnamed, steps-alone}
-use Rattle.demands.proofs.QuietCourse.{fedBy, courseBy, course-next, next-forced}
-use Rattle.demands.proofs.QuietLists.{next-first}
+use Rattle.step.proofs.ProjectionFed.{met}
+use Rattle.step.proofs.ProjectionReached.{Reached, nextAlone, reached-left}
+use Rattle.step.proofs.ProjectionSteps.{unnamed, steps-alone}
+use Rattle.step.proofs.QuietCourse.{fedBy, courseBy, course-next, next-forced}
+use Rattle.step.proofs.QuietLists.{next-first}
 
 -- ---- no write of some rows is mapped to the byte y
 

@@ -34,29 +34,29 @@ use Rattle.model.specs.declared.Awaits.the-variants.{Piece, Flush}
 use Rattle.model.specs.declared.Row.{Row}
 use Rattle.model.specs.State.{State, freed}
 use Rattle.model.specs.Opening.{Plan}
 use Rattle.step.specs.Questions.{regionAt}
 use Rattle.step.specs.Rules.{firstOf, lastOf, pieceLength, isWhole, splitAfter, Input, Input.answered, Input.flushed, Fate, Fate.away, Fate.awaits, Fate.ends, answerRules, flushRules, flushEnds, flushOutcome, rules}
 use Rattle.step.specs.Step.{rowAt, rowOf, isLive, names, bytesAt, raised, awaitsNow, completionOf, planOf, going, freeing, settled, fateOf, underTag, eqLengths}
 use Rattle.step.specs.Sound.{Sound}
 use Rattle.step.specs.Laws.{Made, Made.calls, Made.looks, Event, leave, done, next, replyTo}
 use Rattle.step.specs.Lists.{brought, isAway, planAt, Completed, withBytes, addedBy, isBrought, takesWhole, wroteBy, tagIn, cardBy, HostMay}
 use Rattle.step.specs.Demand2.{WholeTo, TakenWhole, Undisturbed}
 use Rattle.step.proofs.Picked.{by-pick}
 use Rattle.step.proofs.Away.{turned-away}
 use Rattle.step.proofs.AloneTags.{clash, live-in, names-live, names-generation, names-by}
 use Rattle.step.proofs.Buffers.{bytes-length}
 use Rattle.step.proofs.Histories.{leaves, keeps-next}
 use Rattle.step.proofs.Laws.{keeps}
 use Rattle.step.proofs.Fates.{Fitting, FateFits, fate-fits}
 use Rattle.step.proofs.CardBytes.{wrote-none}
-use Rattle.demands.proofs.ListsBrought.{brings}
+use Rattle.step.proofs.ListsBrought.{brings}
 use Rattle.step.proofs.ProjectionFixed.{next-plans}
 use Rattle.step.proofs.ProjectionHost.{sole, live-in-table, left-alike}
-use Rattle.demands.proofs.ProjectionSet.{Changed, row-here, bytes-here}
-use Rattle.demands.proofs.Demand2Others.{wrote-unless, pool-others, other-row, done-row}
-use Rattle.demands.proofs.Demand2Bytes.{lying, lying-last, turned-on, turned-last, piece-written}
+use Rattle.step.proofs.ProjectionSet.{Changed, row-here, bytes-here}
+use Rattle.step.proofs.Demand2Others.{wrote-unless, pool-others, other-row, done-row}
+use Rattle.step.proofs.Demand2Bytes.{lying, lying-last, turned-on, turned-last, piece-written}
 use Rattle.step.proofs.Demand2Fate.{pages, Whole, Whole.next-piece, Whole.its-flush, Whole.completes, answer-whole}
-use Rattle.demands.proofs.Demand2Task.{Task, mappedTo, splitOf, sizeOf, hostsOf, onCard, Stage, Stage.piece, Stage.flush, InRow, Open, piece-ends, consecutive, piece-place, piece-size, loose-is, is-new}
+use Rattle.step.proofs.Demand2Task.{Task, mappedTo, splitOf, sizeOf, hostsOf, onCard, Stage, Stage.piece, Stage.flush, InRow, Open, piece-ends, consecutive, piece-place, piece-size, loose-is, is-new}
 
 -- ---- an event that is turned away, or not
 

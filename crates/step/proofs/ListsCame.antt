@@ -22,19 +22,19 @@ use Rattle.model.specs.declared.Call.the-variants.{Take}
 use Rattle.model.specs.declared.Lookup.{Lookup}
 use Rattle.model.specs.declared.Lookup.the-variants.{WritesLive, Mark as MarkNow}
 use Rattle.model.specs.State.{State}
 use Rattle.step.specs.Questions.{regionAt}
 use Rattle.step.specs.Rules.{Input, Fate, Fate.away, Fate.awaits, Fate.ends, Fate.rejected}
 use Rattle.step.specs.Step.{rowAt, rowOf, names, bytesAt, planOf, settled, fateOf, underTag, taken, lookedUp, called, eqLengths, step, look}
 use Rattle.step.specs.Sound.{Sound}
 use Rattle.step.specs.Laws.{Made, Made.calls, done}
 use Rattle.step.specs.Lists.{broughtBy, brought, isAway, tookBy, planAt, tagIn}
 use Rattle.step.specs.Demand3.{FairTo}
 use Rattle.step.proofs.AloneTags.{names-live}
 use Rattle.step.proofs.Fates.{Fitting, FateFits, fate-fits}
 use Rattle.step.proofs.Away.{rejects}
 use Rattle.step.proofs.QuietRules.{Calm, calm}
-use Rattle.demands.proofs.ListsBrought.{Brings, brought-there, Listed, Listed.brings-to, Listed.takes, Listed.looks-up}
+use Rattle.step.proofs.ListsBrought.{Brings, brought-there, Listed, Listed.brings-to, Listed.takes, Listed.looks-up}
 use Rattle.step.proofs.ProjectionHost.{live-in-table}
 
 pub data Came (s : State) (l : Lengths) (m : Made) : Type 0 where
   turned : (f : Refusal) → done s l m ≡ (s, turnedAway f) → Came s l m

@@ -10,21 +10,21 @@ use Rattle.model.specs.declared.Row.{Row}
 use Rattle.model.specs.State.{Region, noRegion, State, freed}
 use Rattle.model.specs.Opening.{atFirst, opened}
 use Rattle.model.specs.Memory.{planIn}
 use Rattle.step.specs.Questions.{regionAt}
 use Rattle.step.specs.Step.{rowAt, isLive}
 use Rattle.step.specs.Sound.{Sound}
 use Rattle.step.specs.Laws.{Event, leave, next, replyTo, run}
 use Rattle.step.specs.Lists.{HostMay, Hosted}
 use Rattle.step.specs.Alone.{Alones, noneYet, aloneNext, alones}
 use Rattle.step.specs.Demand3.{Start, plansOf, openedBy, Projected}
 use Rattle.step.proofs.Counts.{all-alike}
 use Rattle.step.proofs.Opened.{opened-sound}
 use Rattle.step.proofs.Histories.{leaves, keeps-next}
 use Rattle.step.proofs.Laws.{keeps}
 use Rattle.step.proofs.AloneTags.{clash, freed-dead}
 use Rattle.step.proofs.ProjectionFixed.{Fixed, fixed-opened, fixed-left, fixed-next}
-use Rattle.demands.proofs.ProjectionRows.{projected-left}
-use Rattle.demands.proofs.ProjectionCalls.{projected-done}
+use Rattle.step.proofs.ProjectionRows.{projected-left}
+use Rattle.step.proofs.ProjectionCalls.{projected-done}
 
 pub record Reached (x : Start) (s : State) (a : Alones) : Type 0 where
   pub sound : Sound s

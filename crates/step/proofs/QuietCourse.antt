@@ -20,22 +20,22 @@ use Rattle.model.specs.declared.Row.{Row}
 use Rattle.model.specs.State.{State}
 use Rattle.model.specs.Opening.{Plan}
 use Rattle.model.specs.Memory.{planIn}
 use Rattle.step.specs.Questions.{regionAt}
 use Rattle.step.specs.Rules.{Input, Fate, Fate.away, Fate.awaits, Fate.ends, Fate.rejected, rules}
 use Rattle.step.specs.Step.{rowAt, rowOf, bytesAt, planOf, settled, eqLengths}
 use Rattle.step.specs.Laws.{Made, Event, leave, replyTo}
 use Rattle.step.specs.Lists.{brought, isAway, loose, planAt, leftIn, Given, givenAs, givenBy, HostMay}
 use Rattle.step.specs.Alone.{Course, Course.isOpen, Course.completed, Course.wasRefused, Alones, withLeft, onward, aloneFate, feeds, heardCall, heard, aloneNext}
 use Rattle.step.specs.Demand3.{Start, plansOf, isListed}
 use Rattle.step.proofs.AloneTags.{clash}
-use Rattle.demands.proofs.ListsBrought.{Listed, Listed.brings-to, Listed.takes, Listed.looks-up, listed-is}
+use Rattle.step.proofs.ListsBrought.{Listed, Listed.brings-to, Listed.takes, Listed.looks-up, listed-is}
 use Rattle.step.proofs.Picked.{by-pick}
 use Rattle.step.proofs.Fates.{Fitting, FateFits}
 use Rattle.step.proofs.Away.{asks, rejects}
-use Rattle.demands.proofs.ProjectionSet.{put-there}
-use Rattle.demands.proofs.ProjectionFed.{feeds-none}
-use Rattle.demands.proofs.ProjectionReached.{Reached, nextAlone, reached-left}
-use Rattle.demands.proofs.ProjectionSteps.{alone-to, other-length, fate, fits-is, met-is, course-is, course-other, row-is}
+use Rattle.step.proofs.ProjectionSet.{put-there}
+use Rattle.step.proofs.ProjectionFed.{feeds-none}
+use Rattle.step.proofs.ProjectionReached.{Reached, nextAlone, reached-left}
+use Rattle.step.proofs.ProjectionSteps.{alone-to, other-length, fate, fits-is, met-is, course-is, course-other, row-is}
 
 -- ---- the course by what is given
 

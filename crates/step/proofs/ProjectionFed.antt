@@ -14,20 +14,20 @@ use Rattle.completion.specs.declared.Completion.{Completion}
 use Rattle.completion.specs.declared.Reply.the-variants.{No as turnedAway}
 use Rattle.model.specs.declared.Row.{Row}
 use Rattle.model.specs.State.{Owner, State, freed}
 use Rattle.step.specs.Rules.{Input, Fate, Fate.away, Fate.awaits, Fate.ends, Fate.rejected}
 use Rattle.step.specs.Step.{queueTag, rowAt, rowOf, isLive, names, bytesAt, awaitsNow, oneLess, poisonWith, going, freeing, settled, fateOf, underTag}
 use Rattle.step.specs.Sound.{Sound}
 use Rattle.step.specs.Lists.{tagAt}
 use Rattle.step.specs.Alone.{Course, Course.isOpen, Course.completed, Course.wasRefused, Alones, putAt, onward, blamed, aloneFate, feeds}
 use Rattle.step.specs.Demand3.{Start, plansOf, Alike, Projected}
 use Rattle.step.proofs.AloneTags.{clash, freed-dead, live-in, names-live, names-generation, names-by, named-tag, one-tag}
 use Rattle.step.proofs.Named.{one-live}
 use Rattle.step.proofs.Buffers.{bytes-length}
 use Rattle.step.proofs.Fates.{Fitting, FateFits, fate-fits}
 use Rattle.step.proofs.ProjectionFixed.{Fixed}
 use Rattle.step.proofs.ProjectionHost.{sole, live-in-table, same-fate}
-use Rattle.demands.proofs.ProjectionSet.{put-here, put-there, Changed, projected-set}
-use Rattle.demands.proofs.ProjectionRows.{projected-same}
+use Rattle.step.proofs.ProjectionSet.{put-here, put-there, Changed, projected-set}
+use Rattle.step.proofs.ProjectionRows.{projected-same}
 
 -- the operations alone after a fate of the one under the tag t
 abbrev pub fedWith : Alones → ℕ → Row → List ℕ → Fate → Alones

@@ -14,20 +14,20 @@ use Rattle.domain.specs.declared.Poisoned.{Poisoned}
 use Rattle.completion.specs.declared.Completion.{Completion}
 use Rattle.model.specs.declared.Row.{Row}
 use Rattle.model.specs.State.{State}
 use Rattle.step.specs.Rules.{Input, Fate, Fate.away, Fate.awaits, Fate.ends, Fate.rejected}
 use Rattle.step.specs.Step.{rowAt, bytesAt, awaitsNow, settled, eqLengths}
 use Rattle.step.specs.Laws.{Event, leave, next}
 use Rattle.step.specs.Lists.{brought, HostMay, isBrought, Given, givenBy, given, Completed, withBytes, addedBy, gets}
 use Rattle.step.specs.Alone.{Course, Course.isOpen, Course.completed, Course.wasRefused, Alones, onward, alones}
 use Rattle.step.specs.Demand3.{Start, Fits, StepsAlone}
 use Rattle.step.proofs.AloneTags.{clash}
-use Rattle.demands.proofs.ListsBrought.{Brings, brings}
-use Rattle.demands.proofs.ListsCame.{not-rejected, fair-under}
-use Rattle.demands.proofs.ListsRows.{same-poison}
-use Rattle.demands.proofs.ListsWalk.{host-may, listed, behind, fair-next, came-next, reached}
-use Rattle.demands.proofs.ProjectionReached.{Reached, nextAlone, runAlone, reached-left}
-use Rattle.demands.proofs.ProjectionSteps.{fate, fate-is, met-is, course-is, course-other, named, row-is, steps-alone}
-use Rattle.demands.proofs.QuietCourse.{fedBy, courseBy, course-append, next-other, next-forced, course-next, shut}
+use Rattle.step.proofs.ListsBrought.{Brings, brings}
+use Rattle.step.proofs.ListsCame.{not-rejected, fair-under}
+use Rattle.step.proofs.ListsRows.{same-poison}
+use Rattle.step.proofs.ListsWalk.{host-may, listed, behind, fair-next, came-next, reached}
+use Rattle.step.proofs.ProjectionReached.{Reached, nextAlone, runAlone, reached-left}
+use Rattle.step.proofs.ProjectionSteps.{fate, fate-is, met-is, course-is, course-other, named, row-is, steps-alone}
+use Rattle.step.proofs.QuietCourse.{fedBy, courseBy, course-append, next-other, next-forced, course-next, shut}
 
 -- ---- courses
 

@@ -16,20 +16,20 @@ use Rattle.model.specs.declared.Awaits.the-variants.{Nothing, Piece, Flush}
 use Rattle.model.specs.declared.Row.{Row}
 use Rattle.model.specs.State.{State, freed, awaiting, liveRows}
 use Rattle.model.specs.Opening.{Plan}
 use Rattle.step.specs.Questions.{regionAt}
 use Rattle.step.specs.Rules.{Fate.awaits}
 use Rattle.step.specs.Step.{rowAt, rowOf, raised, isLive, planOf, awaitsNow, completionOf, asksFor, going, freeing, settled, taken}
 use Rattle.step.specs.Laws.{Made, Event, leave, done, next, replyTo, run}
 use Rattle.step.specs.Lists.{tookBy, addedBy, added, takings}
 use Rattle.step.specs.Alone.{Alones}
 use Rattle.step.specs.Demand3.{Start, Fits, AllDone}
 use Rattle.step.proofs.Counts.{live-set}
 use Rattle.step.proofs.Named.{live-one}
 use Rattle.step.proofs.AloneTags.{dead-awaiting, freed-dead, live-in, names-live}
-use Rattle.demands.proofs.ProjectionReached.{Reached, nextAlone}
-use Rattle.demands.proofs.ListsCame.{Came, Came.turned, Came.silent, Came.took, Came.goes, Came.finishes}
-use Rattle.demands.proofs.ListsRows.{goes-on-with}
-use Rattle.demands.proofs.ListsWalk.{came-next, reached, behind}
+use Rattle.step.proofs.ProjectionReached.{Reached, nextAlone}
+use Rattle.step.proofs.ListsCame.{Came, Came.turned, Came.silent, Came.took, Came.goes, Came.finishes}
+use Rattle.step.proofs.ListsRows.{goes-on-with}
+use Rattle.step.proofs.ListsWalk.{came-next, reached, behind}
 
 -- ---- one call
 
