@@ -7,12 +7,9 @@ use native.Mathlib.Numerals.{add-one}
 use native.Mathlib.Omega.{arith}
 use lib.ListN.{length, take, getD, set, length-append}
 use lib.Seq.{take-all, take-append-le, take-suc-set, getD-take}
-use lib.Dec.{eqb}
-use borrow.Author.Tests.{ltb-true, ltb-false, lt-ltb, le-ltb, le-leb, lt-leb}
-use Rattle.layout.specs.Pick.{pick}
+use borrow.Author.Tests.{ltb-true, ltb-false, lt-ltb, le-ltb}
 use Rattle.trace.specs.declared.Reader.{Reader}
-use Rattle.trace.specs.declared.Line.the-variants.{Comment, Bad}
-use Rattle.trace.specs.Trace.{Kept, lineIn, lineRead}
+use Rattle.trace.specs.Trace.{Kept}
 
 module _ {r : Reader} {line bytes : List ℕ} (k : Kept r line bytes) where
   -- a byte more where 4,096 are kept: it is not
@@ -52,15 +49,7 @@ module _ {r : Reader} {line bytes : List ℕ} (k : Kept r line bytes) where
         let p = past in
         sym (getD-take (r .kept) line 0 0 (omega arith)) ∙ ap (λ (l : List ℕ). getD l 0 0) (k .same) ∙ getD-take 4096 bytes 0 0 (omega arith)
 
-    pub cut-short : lineRead bytes ≡ pick (eqb (getD line 0 0) 35) Comment Bad
-    unfolding lineRead pick
-    cut-short = rw (lt-leb (length bytes) 4096 past, first)
-
   -- another is kept whole
   module _ (whole : r .long ≡ false) where
     pub within : length bytes ≤ 4096
     within = ltb-false 4096 (length bytes) (sym (k .longer) ∙ whole)
-
-    pub read-whole : lineIn (take (r .kept) line) ≡ lineRead bytes
-    unfolding lineRead pick
-    read-whole = rw (le-leb (length bytes) 4096 within, k .same, take-all 4096 bytes within)

@@ -1,4 +1,4 @@
--- `trace::count_spaces` meets its contract: the spaces counted and those from i on are all the spaces. The measure is what is left of the line.
+-- `fields::count_spaces` meets its contract: the spaces counted and those from i on are all the spaces. The measure is what is left of the line.
 use mathlib.Core.Path.{_≡_}
 use mathlib.Core.Logic.{⊎-elim}
 use Prim.Native.Nat.{_+_, _-_, _≤_}

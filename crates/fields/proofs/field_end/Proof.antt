@@ -1,4 +1,4 @@
--- `trace::field_end` meets its contract: the field is as long as the bytes passed and the field that begins at i. The measure is what is left.
+-- `fields::field_end` meets its contract: the field is as long as the bytes passed and the field that begins at i. The measure is what is left.
 use mathlib.Core.Path.{_≡_, ap}
 use Prim.Native.Nat.{_+_, _-_, _≤_}
 use native.Mathlib.Omega.{arith}

@@ -1,4 +1,4 @@
--- `trace::field_start` meets its contract: the k-th field of the line is the field that is still `left` spaces away of what stands from i on.
+-- `fields::field_start` meets its contract: the k-th field of the line is the field that is still `left` spaces away of what stands from i on.
 -- The measure is what is left of the line.
 use mathlib.Core.Path.{_≡_, refl, sym, _∙_}
 use mathlib.Core.Logic.{⊎-elim}

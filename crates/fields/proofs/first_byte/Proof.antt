@@ -1,4 +1,4 @@
--- `trace::first_byte` meets its contract: an empty line has its default.
+-- `fields::first_byte` meets its contract: an empty line has its default.
 use mathlib.Core.Path.{sym}
 use native.Mathlib.Omega.{arith}
 use lib.ListN.{List·getD-eq-default}

@@ -1,4 +1,4 @@
--- `trace::number` meets its contract: the bytes before i are digits and n is their value, so the whole field is all digits where those from i on are, and
+-- `fields::number` meets its contract: the bytes before i are digits and n is their value, so the whole field is all digits where those from i on are, and
 -- its value is that of the rest behind n. A byte that is no digit, or a value past 64 bits, refuses it. The measure is what is left.
 use mathlib.Core.Path.{_≡_, refl, sym, _∙_}
 use Prim.Native.Nat.{_+_, _-_, _*_, _^_, _≤_, _<_}

@@ -1,4 +1,4 @@
--- `trace::number_in` meets its contract: the bytes from the field's begin to its end are the field.
+-- `fields::number_in` meets its contract: the bytes from the field's begin to its end are the field.
 use mathlib.Core.Path.{sym, ap, _∙_}
 use Rattle.fields.specs.Fields.{numberIn}
 use Rattle.fields.proofs.Fields.{field-cut}

@@ -1,4 +1,4 @@
--- `trace::put` meets its contract: before each turn the buffer is what it was with the first i bytes of the text laid over it from `at` on. The measure is what
+-- `texts::put` meets its contract: before each turn the buffer is what it was with the first i bytes of the text laid over it from `at` on. The measure is what
 -- is left of the text.
 use mathlib.Core.Path.{_≡_, refl, ap, _∙_}
 use mathlib.Core.List.{List}

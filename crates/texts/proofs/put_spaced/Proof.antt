@@ -1,4 +1,4 @@
--- `trace::put_spaced` meets its contract: the digits that `io::decimal` makes are the number's, at most 20 of them (`Decimal`), and stand behind the space.
+-- `texts::put_spaced` meets its contract: the digits that `io::decimal` makes are the number's, at most 20 of them (`Decimal`), and stand behind the space.
 use mathlib.Core.Path.{_∙_}
 use mathlib.Core.List.{[], _∷_, append-assoc}
 use native.Mathlib.Omega.{arith}

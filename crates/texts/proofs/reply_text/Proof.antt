@@ -1,4 +1,4 @@
--- `trace::reply_text` meets its contract: each arm knows which reply it is, and there the definition computes.
+-- `texts::reply_text` meets its contract: each arm knows which reply it is, and there the definition computes.
 use mathlib.Core.Path.{_≡_, refl, _∙_}
 use mathlib.Core.List.{List, [], _∷_}
 use Prim.Native.Nat.{ℕ}

@@ -1,8 +1,8 @@
 -- `trace::feed` meets its contract: the byte is stored while fewer than 4,096 are kept (`Kept`).
 use Rattle.trace.proofs.Kept.{full, stored}
 use borrow.Author.Needs.{needs}
-use Rattle.trace.proofs.lines.feed.Statement.{statement}
-use Rattle.trace.proofs.lines.feed.Tie as tie
+use Rattle.trace.proofs.feed.Statement.{statement}
+use Rattle.trace.proofs.feed.Tie as tie
 
 returns : tie.Need-returns
 returns c = λ bytes k. full k (c .before .args .b) (c .if1 .taken)
