@@ -5,3 +5,4 @@ pub mod Rows
 pub mod Handed
 pub mod Within
 pub mod Flushing
+pub mod Concluding
