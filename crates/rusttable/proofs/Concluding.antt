@@ -103,10 +103,11 @@ unfolding written mapOk doneWrite
 no-write (Ok m) = refl
 no-write (Err e) = refl
 
-module _ (s : State) (n : ℕ) (row : Row) (T : Table) (t : ℕ) (r : RustRow) where
-  abbrev operation : Kind → Live
-  operation k = record { tag = row .tag; seq = row .seq; kind = k; handle = row .handle; durable = row .durable; held = none; split = none }
+-- the operation in a row, without a split and holding nothing
+abbrev pub operationOf : Row → Kind → Live
+operationOf row k = record { tag = row .tag; seq = row .seq; kind = k; handle = row .handle; durable = row .durable; held = none; split = none }
 
+module _ (s : State) (n : ℕ) (row : Row) (T : Table) (t : ℕ) where
   abbrev g : Region
   g = regionAt s (row .handle)
 
@@ -122,7 +123,7 @@ module _ (s : State) (n : ℕ) (row : Row) (T : Table) (t : ℕ) (r : RustRow) w
   carriedFlush k Nothing bytes = (x, Finished)
   carriedFlush k (Piece k′ sp) bytes = (x, Finished)
   carriedFlush k (AwaitsFlush tk) bytes =
-      (withTable x (put T t (withHeld (operation k) (some (record { buf = some (record { number = row .buffer; len = tk .end .0 - tk .start .0; bytes = bytes }); ticket = tk })))), Flush t (tk .need))
+      (withTable x (put T t (withHeld (operationOf row k) (some (record { buf = some (record { number = row .buffer; len = tk .end .0 - tk .start .0; bytes = bytes }); ticket = tk })))), Flush t (tk .need))
 
   unfoldable pub carried : Kind → Fate → Submitter × Finish
   carried k (away f) = (x, Finished)
@@ -140,10 +141,10 @@ module _ (s : State) (n : ℕ) (row : Row) (T : Table) (t : ℕ) (r : RustRow) w
 
   -- ---- a read
 
-  module _ (a b : Position) (has : Has T t r (operation (Reads a b))) where
+  module _ (a b : Position) (r : RustRow) (has : Has T t r (operationOf row (Reads a b))) where
     read-concluded : (buf : Option IoBuf) (result : RawResult) → conclude x t buf result ≡ handBack x t buf (mapOk Read («settle_read» g a b buf result))
     unfolding conclude given settle settleKind withStore region storeOf regionAt
-    read-concluded buf result = rw (live-is T t r (operation (Reads a b)) has) (unwritten x t buf (operation (Reads a b)) (mapOk Read («settle_read» g a b buf result)) (no-write («settle_read» g a b buf result)))
+    read-concluded buf result = rw (live-is T t r (operationOf row (Reads a b)) has) (unwritten x t buf (operationOf row (Reads a b)) (mapOk Read («settle_read» g a b buf result)) (no-write («settle_read» g a b buf result)))
 
     module _ (sp : Split) (bytes : List ℕ) (room : sp .total ≤ length bytes) where
       shorter : (m : ℕ) → sp .done + m ≤ sp .total → «set_len» (record { number = row .buffer; len = sp .total; bytes = turned (sp .total) (sp .total - sp .done) bytes }) (sp .done + m) ≡ record { number = row .buffer; len = sp .done + m; bytes = turned (sp .total) (sp .total - sp .done) bytes }
@@ -171,7 +172,7 @@ module _ (s : State) (n : ℕ) (row : Row) (T : Table) (t : ℕ) (r : RustRow) w
 
   -- ---- a write
 
-  module _ (a b : Position) (has : Has T t r (operation (Page a b))) where
+  module _ (a b : Position) (r : RustRow) (has : Has T t r (operationOf row (Page a b))) where
     abbrev its-ticket : WriteTicket
     its-ticket = ticketOf (s .settings) (planOf g) (Page a b) n
 
@@ -183,7 +184,7 @@ module _ (s : State) (n : ℕ) (row : Row) (T : Table) (t : ℕ) (r : RustRow) w
       here = record { number = row .buffer; len = sp .total; bytes = bytes }
 
       -- kept for its flush
-      flush-kept : _≡_ {A = Submitter × Finish} (withTable x (put T t (withHeld (operation (Page a b)) (some (record { buf = some here; ticket = its-ticket })))), Flush t (its-ticket .need))
+      flush-kept : _≡_ {A = Submitter × Finish} (withTable x (put T t (withHeld (operationOf row (Page a b)) (some (record { buf = some here; ticket = its-ticket })))), Flush t (its-ticket .need))
           (carried (Page a b) (awaits (AwaitsFlush its-ticket) bytes))
       unfolding carried carriedFlush ticketOf firstOf lastOf
       flush-kept = let long : sp .total ≡ b .0 - a .0 = omega arith in rw long refl
@@ -198,7 +199,7 @@ module _ (s : State) (n : ℕ) (row : Row) (T : Table) (t : ℕ) (r : RustRow) w
       unfolding handBack shortened readLen given carried outcomeOf bufAs withTable poisonWith storeOf
       plain = refl
 
-      written-ends : concluded x t (some here) (operation (Page a b)) wrote ≡ carried (Page a b) (writtenAs (s .settings) (g .forced) (s .poison) (row .durable) its-ticket (Back (row .buffer) (sp .total)) bytes)
+      written-ends : concluded x t (some here) (operationOf row (Page a b)) wrote ≡ carried (Page a b) (writtenAs (s .settings) (g .forced) (s .poison) (row .durable) its-ticket (Back (row .buffer) (sp .total)) bytes)
       unfolding concluded writtenAs given written doneWrite flushes region regionAt storeOf
       written-ends = two-picks (row .durable) (s .settings .flush || g .forced) (carried (Page a b)) _ _ _ flush-kept (receipt-given (s .poison)) plain
 
@@ -207,17 +208,17 @@ module _ (s : State) (n : ℕ) (row : Row) (T : Table) (t : ℕ) (r : RustRow) w
     failed err = withStore x (unknown (storeOf s n) writeOp err («ctx_range» g a b) .0)
 
     unwritten-ends : (buf : Buffer) (bytes : List ℕ) (answer : Answer)
-        → concluded (failed (errorOf answer)) t (bufAs buf bytes) (operation (Page a b)) (Err (unknown (storeOf s n) writeOp (errorOf answer) («ctx_range» g a b) .1))
+        → concluded (failed (errorOf answer)) t (bufAs buf bytes) (operationOf row (Page a b)) (Err (unknown (storeOf s n) writeOp (errorOf answer) («ctx_range» g a b) .1))
         ≡ carried (Page a b) (ends (endsUnknown (rangeOf (planOf g) (Page a b)) (causeOf answer)) buf bytes (some (causeOf answer)))
     unfolding unknown carried outcomeOf withStore withTable poisonWith storeOf causeOf contextOf «ctx_range» rangeOf planOf firstOf lastOf written handBack shortened readLen given
-    unwritten-ends buf bytes answer = unwritten (failed (errorOf answer)) t (bufAs buf bytes) (operation (Page a b)) (Err (unknown (storeOf s n) writeOp (errorOf answer) («ctx_range» g a b) .1)) refl
+    unwritten-ends buf bytes answer = unwritten (failed (errorOf answer)) t (bufAs buf bytes) (operationOf row (Page a b)) (Err (unknown (storeOf s n) writeOp (errorOf answer) («ctx_range» g a b) .1)) refl
 
     write-concluded : (buf : Option IoBuf) (result : RawResult) (full : Bool) → isFull result buf ≡ full → conclude x t buf result
-        ≡ pick full (concluded x t buf (operation (Page a b)) wrote)
-        (concluded (failed (errIn result)) t buf (operation (Page a b)) (Err (unknown (storeOf s n) writeOp (errIn result) («ctx_range» g a b) .1)))
+        ≡ pick full (concluded x t buf (operationOf row (Page a b)) wrote)
+        (concluded (failed (errIn result)) t buf (operationOf row (Page a b)) (Err (unknown (storeOf s n) writeOp (errIn result) («ctx_range» g a b) .1)))
     unfolding conclude given settle settleKind «settle_write» mapOk withStore region storeOf regionAt pick ticket domainTicket ticketOf planOf firstOf lastOf
-    write-concluded buf result true e = rw (live-is T t r (operation (Page a b)) has, e) refl
-    write-concluded buf result false e = rw (live-is T t r (operation (Page a b)) has, e) refl
+    write-concluded buf result true e = rw (live-is T t r (operationOf row (Page a b)) has, e) refl
+    write-concluded buf result false e = rw (live-is T t r (operationOf row (Page a b)) has, e) refl
 
     module _ (sp : Split) (bytes : List ℕ) (fits : a .0 + sp .total ≡ b .0) (left : sp .done < sp .total) where
       same-full : (answer : Answer) (back : Bool) → isFull (resultFor sp answer) (back-in-order back sp bytes) ≡ isWritten sp answer back
@@ -237,8 +238,8 @@ module _ (s : State) (n : ℕ) (row : Row) (T : Table) (t : ℕ) (r : RustRow) w
       same-error (RefusedWith e media) = refl
 
       by-written : (answer : Answer) (back w : Bool) → isWritten sp answer back ≡ w
-          → pick w (concluded x t (back-in-order back sp bytes) (operation (Page a b)) wrote)
-          (concluded (failed (errorOf answer)) t (back-in-order back sp bytes) (operation (Page a b)) (Err (unknown (storeOf s n) writeOp (errorOf answer) («ctx_range» g a b) .1)))
+          → pick w (concluded x t (back-in-order back sp bytes) (operationOf row (Page a b)) wrote)
+          (concluded (failed (errorOf answer)) t (back-in-order back sp bytes) (operationOf row (Page a b)) (Err (unknown (storeOf s n) writeOp (errorOf answer) («ctx_range» g a b) .1)))
           ≡ carried (Page a b) (pick w (writtenAs (s .settings) (g .forced) (s .poison) (row .durable) its-ticket (bufferAs back (row .buffer) (sp .total)) (turnedBack back sp bytes))
           (ends (endsUnknown (rangeOf (planOf g) (Page a b)) (causeOf answer)) (bufferAs back (row .buffer) (sp .total)) (turnedBack back sp bytes) (some (causeOf answer))))
       unfolding pick bufferAs bufAs turnedBack

@@ -6,3 +6,6 @@ pub mod Handed
 pub mod Within
 pub mod Flushing
 pub mod Concluding
+pub mod Carried
+pub mod Turning
+pub mod Pieces
