@@ -9,3 +9,4 @@ pub mod Concluding
 pub mod Carried
 pub mod Turning
 pub mod Pieces
+pub mod Finishing
