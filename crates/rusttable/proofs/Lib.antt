@@ -10,3 +10,5 @@ pub mod Carried
 pub mod Turning
 pub mod Pieces
 pub mod Finishing
+pub mod RefusedNext
+pub mod Aborting

@@ -4,7 +4,7 @@ use mathlib.Core.Bool.{Bool, true, false}
 use mathlib.Core.List.{List, map}
 use mathlib.Core.Option.{Option, none, some, Option·map}
 use Prim.Native.Nat.{ℕ, _-_}
-use lib.Dec.{eqb}
+use lib.Dec.{ltb, eqb}
 use Rattle.layout.specs.Pick.{pick}
 use Rattle.domain.specs.declared.Op.{Op}
 use Rattle.domain.specs.declared.OsError.{OsError}
@@ -123,6 +123,12 @@ answerOf (Err e) = Failed (e .raw) (e .media)
 unfoldable pub refusalOf : Option RawError → Answer
 refusalOf none = Refused
 refusalOf (some e) = RefusedWith (e .raw) (e .media)
+
+-- whether the piece under way is a later one: bytes are done before it
+unfoldable pub isLater : Awaits → Bool
+isLater Nothing = false
+isLater (Piece k sp) = ltb 0 (sp .done)
+isLater (AwaitsFlush t) = false
 
 -- a flush result; the context of a failure is the Rust's own until it is set to the ticket's
 unfoldable pub flushedOf : FlushResult → Flushed
