@@ -12,3 +12,4 @@ pub mod Pieces
 pub mod Finishing
 pub mod RefusedNext
 pub mod Aborting
+pub mod Taking

@@ -28,3 +28,7 @@ pub map-set-alike : {A : Type 0} {B : Type 0} (f f′ : A → B) (l : List A) (r
 map-set-alike f f′ [] r x d h = refl
 map-set-alike f f′ (y ∷ ys) zero x d h = rw (map-alike f f′ ys d (λ j. h (suc j) (λ e. omega arith)))
 map-set-alike f f′ (y ∷ ys) (suc r) x d h = rw (h 0 (λ e. omega arith), map-set-alike f f′ ys r x d (λ j n. h (suc j) (λ e. n (omega arith))))
+
+pub map-same : {A : Type 0} {B : Type 0} (f f′ : A → B) → ((x : A) → f′ x ≡ f x) → (l : List A) → map f′ l ≡ map f l
+map-same f f′ h [] = refl
+map-same f f′ h (x ∷ xs) = rw (h x, map-same f f′ h xs) refl
