@@ -13,3 +13,4 @@ pub mod Finishing
 pub mod RefusedNext
 pub mod Aborting
 pub mod Taking
+pub mod Issuing
