@@ -14,3 +14,5 @@ pub mod RefusedNext
 pub mod Aborting
 pub mod Taking
 pub mod Issuing
+pub mod Asking
+pub mod Submitting
