@@ -16,3 +16,4 @@ pub mod Taking
 pub mod Issuing
 pub mod Asking
 pub mod Submitting
+pub mod Writing
