@@ -13,6 +13,7 @@ use Rattle.layout.specs.Pick.{pick}
 use Rattle.layout.specs.Block.{onBlock}
 use Rattle.layout.proofs.Tests.{not-both, and-left, and-right}
 use Rattle.regionmap.specs.declared.Position.{Position}
+use Rattle.regionmap.specs.declared.Offset.{Offset}
 use Rattle.regionmap.specs.Map.{place, runLeft}
 use Rattle.regionmap.specs.Words.{positionOf}
 use Rattle.domain.specs.declared.FirstCause.{FirstCause}
@@ -35,7 +36,7 @@ use Rattle.model.specs.declared.Asked.the-variants.{Yes, No}
 use Rattle.model.specs.declared.Call.the-variants.{Write, Answer as Answers}
 use Rattle.model.specs.State.{Region, noRegion, State}
 use Rattle.step.specs.Questions.{idOf, heldAt, handleNamesRegion, bufferInPool, hostHoldsBuffer, roomInTable, lifetimeLeft, storeWritable, regionWritable, volumeAndRegionMatch, generationMatches, lengthAbove0, writeOnBlock, aligned, withinData, regionAt, firstNo, writeQuestions}
-use Rattle.step.specs.Rules.{firstOf, rangeOf, opOf, errorOf}
+use Rattle.step.specs.Rules.{firstOf, lastOf, rangeOf, opOf, errorOf}
 use Rattle.step.specs.Step.{startOf, endOf, begun, queueTag, topOf, rowAt, durableAs, accepted, planOf, verdictOf, writeVerdict, submitted, called, step}
 use Rattle.step.specs.Sound.{Sound}
 use Rattle.step.proofs.Answers.{Passed, write-passed}
@@ -89,6 +90,16 @@ pub turned : (s : State) (q : Request) (k : Kind) (n : ℕ) (w : Bool) (buf : Io
     → Submits n w buf rust (settledAs s k q (No f))
 unfolding rejected issuedAs submitted verdictOf
 turned s q k n w buf f e rust same r = rw r (record { state = refl; reply = rw same refl })
+
+-- the reply to an answer no, and to an accepted submission
+module _ (s : State) (q : Request) (k : Kind) where
+  pub no-reply-of : (f : Refusal) → compared (settledAs s k q (No f) .1) ≡ true → compared (turnedAway f) ≡ true
+  unfolding submitted verdictOf
+  no-reply-of f h = h
+
+pub is-piece : (z : Reply) (t : ℕ) (o : Offset) (c b : ℕ) → z ≡ piece t o c b → compared z ≡ true
+unfolding compared
+is-piece z t o c b e = rw e refl
 
 -- ---- a write
 
@@ -249,3 +260,41 @@ module _ (s : State) (i : Sound s) (q : Request) (n : ℕ) where
         (λ e₃. answered-out _ refl))
         (λ e₂. answered-no _ _ refl (λ queue. no-admit queue _ (admit-foreign s i q n e₂))))
         (λ e₁. absurd (not-both known e₁))
+
+    -- ---- the squares
+
+    taken-by : (a : Asked) → Answered a → compared (settledAs s k q a .1) ≡ true → Submits n true given (rust Taken) (settledAs s k q a)
+    unfolding Answered
+    taken-by Yes answer h = rw (answer .1 Taken) (taken-is s i q (answer .0) k starts n true error)
+    taken-by (No f) answer h = let x = answer (no-reply-of s q k f h) in turned s q k n true given f (x .0) (rust Taken) (x .1) (x .2 Taken)
+
+    same-error : (raw : Option RawError) → error raw ≡ refusedError (rangeOf (planOf region) k) (opOf k) (errorOf (refusalOf raw))
+    unfolding refused refusedError rangeOf planOf opOf errorOf refusalOf contextOf «ctx_range» «not_written» firstOf lastOf
+    same-error none = refl
+    same-error (some e) = refl
+
+    refused-by : (l : Lengths) (raw : Option RawError) (back : Bool) (m : ℕ) (a : Asked) → Answered a → Sound (settledAs s k q a .0)
+        → (t : ℕ) (o : Offset) (c b : ℕ) → settledAs s k q a .1 ≡ piece t o c b → compared (step (settledAs s k q a .0) l (Answers t (refusalOf raw) back m) .1) ≡ true
+        → Submits n true given (rust (Refused raw back)) (step (settledAs s k q a .0) l (Answers t (refusalOf raw) back m))
+    unfolding Answered submitted verdictOf
+    refused-by l raw back m Yes answer sound t o c b e h =
+        let same : t ≡ queueTag (topOf (s .free)) (rowAt s (topOf (s .free)) .generation) = cc in
+        rw (same, answer .1 (Refused raw back)) (refused-is s i q (answer .0) k starts n true l sound raw back m (rw same at h) error (same-error raw))
+    refused-by l raw back m (No f) answer sound t o c b e h = let z : _≡_ {A = ℕ} 0 1 = cc in absurd (omega arith)
+
+pub write-square : (s : State) (l : Lengths) (q : Request) (n : ℕ) → Sound s → ltb (q .handle) (s .settings .regions) ≡ true → compared (step s l (Write q) .1) ≡ true
+    → Submits n true (bufOf s (q .buffer) (q .length)) (write (submitterOf s n) (q .handle) (posOf q) (bufOf s (q .buffer) (q .length)) (q .durable) (q .tag) Taken) (step s l (Write q))
+unfolding called writeVerdict
+write-square s l q n i known h =
+    let e = called-step s l (Write q) h in
+    rw e (taken-by s i q n known (firstNo (writeQuestions s (regionAt s (q .handle)) q)) (chain s i q n known) (rw e at h))
+
+pub write-refused-square : (s : State) (l : Lengths) (q : Request) (n : ℕ) → Sound s → ltb (q .handle) (s .settings .regions) ≡ true
+    → (t : ℕ) (o : Offset) (c b : ℕ) → step s l (Write q) .1 ≡ piece t o c b
+    → (raw : Option RawError) (back : Bool) (m : ℕ) → compared (step (step s l (Write q) .0) l (Answers t (refusalOf raw) back m) .1) ≡ true
+    → Submits n true (bufOf s (q .buffer) (q .length)) (write (submitterOf s n) (q .handle) (posOf q) (bufOf s (q .buffer) (q .length)) (q .durable) (q .tag) (Refused raw back))
+    (step (step s l (Write q) .0) l (Answers t (refusalOf raw) back m))
+unfolding called writeVerdict
+write-refused-square s l q n i known t o c b issued raw back m h =
+    let e = called-step s l (Write q) (is-piece (step s l (Write q) .1) t o c b issued) in
+    rw e (refused-by s i q n known l raw back m (firstNo (writeQuestions s (regionAt s (q .handle)) q)) (chain s i q n known) (rw e at (keeps s l (Write q) i)) t o c b (rw e at issued) (rw e at h))
