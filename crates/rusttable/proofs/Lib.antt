@@ -17,3 +17,4 @@ pub mod Issuing
 pub mod Asking
 pub mod Submitting
 pub mod Writing
+pub mod Reading
