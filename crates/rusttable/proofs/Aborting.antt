@@ -48,11 +48,11 @@ use Rattle.rusttable.specs.Table.{Result.Ok, Result.Err, IoBuf, RawError
 use Rattle.rusttable.specs.Table.{Row as RustRow}
 use Rattle.rusttable.specs.Functions.{«set_len», rotated, given, isSome, mapOk, returned, put, rowWith, withSplit, withTable, asRead, region, indexIn, whole, abort}
 use Rattle.rusttable.specs.Domain.{compared}
-use Rattle.rusttable.specs.AsStep.{backOf, completionAs, isLater, refusalOf, contextOf, outcomeOf, bufOf, splitOf, liveOf, rowAs, tableOf, storeOf, submitterOf, pieceIn, inFlight, answerOf, finishAs}
+use Rattle.rusttable.specs.AsStep.{Finishes, backOf, completionAs, isLater, refusalOf, contextOf, outcomeOf, bufOf, splitOf, liveOf, rowAs, tableOf, storeOf, submitterOf, pieceIn, inFlight, answerOf, finishAs}
 use Rattle.rusttable.proofs.Rows.{Has, live-is, has-put, has-live}
 use Rattle.rusttable.proofs.Frames.{own-freeing, table-freeing}
 use Rattle.rusttable.proofs.Concluding.{resultFor, isRefused, within, carried, operationOf, read-ends, write-ends}
-use Rattle.rusttable.proofs.Carried.{Same, Ended, last-ended, carried-put, carried-settled}
+use Rattle.rusttable.proofs.Carried.{Ended, last-ended, carried-put, carried-settled}
 use Rattle.rusttable.proofs.Turning.{set-fits}
 use Rattle.rusttable.proofs.Pieces.{Placed, its-place, long, placed, its-live, there, has, some-bytes, Told, kind-ends}
 use Rattle.rusttable.proofs.RefusedNext.{refusal-not-above}

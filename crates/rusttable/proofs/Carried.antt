@@ -29,15 +29,10 @@ use Rattle.step.proofs.Fates.{Fitting, FateFits}
 use Rattle.rusttable.specs.Table.{Live, Table, Finish, Submitter}
 use Rattle.rusttable.specs.Table.{Row as RustRow}
 use Rattle.rusttable.specs.Functions.{put, withHeld, withTable, release}
-use Rattle.rusttable.specs.AsStep.{bufOf, liveOf, rowAs, tableOf, storeOf, submitterOf, finishAs}
+use Rattle.rusttable.specs.AsStep.{bufOf, liveOf, rowAs, tableOf, storeOf, submitterOf, finishAs, Finishes}
 use Rattle.rusttable.proofs.Rows.{Has, put-twice, put-released}
 use Rattle.rusttable.proofs.Handed.{bufAs, ends-released, own-onward, onward-put}
 use Rattle.rusttable.proofs.Concluding.{carriedFlush, carried, operationOf}
-
--- the Rust's answer to a call is step's
-pub record Same (n : ℕ) (rust : Submitter × Finish) (after : State × Reply) : Type 0 where
-  pub state : rust .0 ≡ submitterOf (after .0) n
-  pub reply : some (rust .1) ≡ finishAs (after .0) (after .1)
 
 -- an operation's end: it is complete, or it is a write that awaits its flush
 unfoldable pub Awaited : Kind → Awaits → Type 0
@@ -79,7 +74,7 @@ module _ (s : State) (i : Sound s) (n t : ℕ) (found : names (rowAt s (rowOf t)
   same-length bytes e = e ∙ bytes-length s i (row .buffer) (i .in-table (rowOf t) (named-below s i t found) (named-live s i t found) .buffer)
 
   module _ (live : Live) (there : liveOf s row (row .awaits) ≡ some live) (tag : live .tag ≡ row .tag) where
-    pub carried-settled : (k : Kind) (f : Fate) → FateFits s row f → Ended k f → Same n (carried s n row (tableOf s) t k f) (settled s t row f)
+    pub carried-settled : (k : Kind) (f : Fate) → FateFits s row f → Ended k f → Finishes n (carried s n row (tableOf s) t k f) (settled s t row f)
     unfolding carried carriedFlush settled Ended Awaited Fitting finishAs submitterOf storeOf freeing going asksFor withTable withHeld liveOf bufOf awaitsNow
     carried-settled k (away f) fits e = absurd e
     carried-settled k (awaits Nothing bytes) fits e = absurd e

@@ -45,11 +45,11 @@ use Rattle.rusttable.specs.Table.{Result.Ok, Result.Err, IoBuf, RawResul
 use Rattle.rusttable.specs.Table.{Row as RustRow}
 use Rattle.rusttable.specs.Functions.{«set_len», rotated, given, isSome, mapOk, lenOf, returned, put, withSplit, withTable, okIs, inOrder, lastOne, nextOne, conclude, finish, «start_of», asRead, region}
 use Rattle.rusttable.specs.Domain.{compared}
-use Rattle.rusttable.specs.AsStep.{bufOf, splitOf, liveOf, rowAs, tableOf, storeOf, submitterOf, pieceIn, inFlight, answerOf, finishAs}
+use Rattle.rusttable.specs.AsStep.{Finishes, bufOf, splitOf, liveOf, rowAs, tableOf, storeOf, submitterOf, pieceIn, inFlight, answerOf, finishAs}
 use Rattle.rusttable.proofs.Rows.{Has, live-is, has-put, has-live}
 use Rattle.rusttable.proofs.Handed.{bufAs, own-onward, onward-put}
 use Rattle.rusttable.proofs.Concluding.{resultFor, isRefused, within, carried, operationOf, read-ends, write-ends}
-use Rattle.rusttable.proofs.Carried.{Same, Ended, last-ended, carried-put, carried-settled}
+use Rattle.rusttable.proofs.Carried.{Ended, last-ended, carried-put, carried-settled}
 use Rattle.rusttable.proofs.Turning.{turn-whole, next-turned, order-back}
 use Rattle.rusttable.proofs.Pieces.{Placed, its-place, long, placed, its-live, there, has, some-bytes, Told, kind-ends}
 use Rattle.rusttable.proofs.Within.{called-step, Found, found-under}
@@ -142,7 +142,7 @@ module _ (s : State) (i : Sound s) (n t : ℕ) (found : names (rowAt s (rowOf t)
   facts = placed s i t found k sp awaits
 
   -- the end, once the operation stands in the row without a split
-  ended : (fits : FateFits s row last) → rust ≡ carried s n row (tableOf s) t k last → Same n rust (settled s t row last)
+  ended : (fits : FateFits s row last) → rust ≡ carried s n row (tableOf s) t k last → Finishes n rust (settled s t row last)
   unfolding withSplit
   ended fits e =
       rw e (carried-settled s i n t found live (there s i t found k sp awaits) refl k last fits (last-ended (s .settings) g (regionAt s (row .handle) .forced) (s .poison) row sp bytes (answerOf result) back n k))
@@ -275,7 +275,7 @@ module _ (s : State) (i : Sound s) (n t : ℕ) (found : names (rowAt s (rowOf t)
           rw e (next-turned (row .buffer) piece bytes sp (facts .room) piece (pieceLength g k later) (omega (arith, most))
           ∙ rw (own-onward s i t found live (there s i t found k sp awaits) turn turn-long (Piece k later) now) refl)
 
-      next-goes : Same n (nextOne (submitterOf s n) t live sp piece (sp .total - sp .done - min piece (sp .total - sp .done)) buf) (settled s t row (awaitsFate (Piece k later) turn))
+      next-goes : Finishes n (nextOne (submitterOf s n) t live sp piece (sp .total - sp .done - min piece (sp .total - sp .done)) buf) (settled s t row (awaitsFate (Piece k later) turn))
       unfolding nextOne settled finishAs asksFor region storeOf submitterOf withSplit regionAt splitAfter
       next-goes = record {
         state = next-state;
@@ -286,7 +286,7 @@ module _ (s : State) (i : Sound s) (n t : ℕ) (found : names (rowAt s (rowOf t)
       unfolding pick given returned lenOf bufOf
       next-is = finish-several ∙ rw (same-test, onward) (rw came refl)
 
-      goes-on : Same n rust (settled s t row (awaitsFate (Piece k later) turn))
+      goes-on : Finishes n rust (settled s t row (awaitsFate (Piece k later) turn))
       goes-on = rw next-is next-goes
 
   -- whichever piece it is
@@ -305,28 +305,28 @@ module _ (s : State) (i : Sound s) (n t : ℕ) (found : names (rowAt s (rowOf t)
     unfolding fateOf rules answerRules pieceAnswered pick
     last-fate stops = rw (awaits, above, not-first sp result, stops) refl
 
-    last-square : goesOn piece sp (answerOf result) back ≡ false → Same n rust (settled s t row last)
+    last-square : goesOn piece sp (answerOf result) back ≡ false → Finishes n rust (settled s t row last)
     last-square stops = ended (rw (last-fate stops) at (fate-fits s row (fedAnswer (answerOf result) back n))) (by-case (ℕ-discrete piece (sp .total)))
       where
         by-case : Dec (piece ≡ sp .total) → rust ≡ carried s n row (tableOf s) t k last
         by-case (yes one) = one-ends one fits-within
         by-case (no ne) = last-ends (several-pieces ne) stops fits-within
 
-    next-square : goesOn piece sp (answerOf result) back ≡ true → Same n rust (settled s t row (awaitsFate (Piece k (splitAfter piece sp)) (turned (sp .total) piece bytes)))
+    next-square : goesOn piece sp (answerOf result) back ≡ true → Finishes n rust (settled s t row (awaitsFate (Piece k (splitAfter piece sp)) (turned (sp .total) piece bytes)))
     next-square onward = goes-on (several-pieces (λ one. let more = goes-on-left piece sp (answerOf result) back onward in omega arith)) onward
 
-  answered-square : compared (settled s t row fate .1) ≡ true → Same n rust (settled s t row fate)
+  answered-square : compared (settled s t row fate .1) ≡ true → Finishes n rust (settled s t row fate)
   unfolding pieceAnswered settled compared number
   answered-square =
-      by-pick (abovePiece piece (answerOf result)) (λ (f : Fate). compared (settled s t row f .1) ≡ true → Same n rust (settled s t row f)) (λ above h. absurd (not-both h refl))
-      (λ above. by-pick (firstRefused sp (answerOf result)) (λ (f : Fate). compared (settled s t row f .1) ≡ true → Same n rust (settled s t row f)) (λ first. absurd (not-both first (not-first sp result)))
-      (λ first. by-pick (goesOn piece sp (answerOf result) back) (λ (f : Fate). compared (settled s t row f .1) ≡ true → Same n rust (settled s t row f)) (λ onward h. next-square above onward) (λ stops h. last-square above stops)))
+      by-pick (abovePiece piece (answerOf result)) (λ (f : Fate). compared (settled s t row f .1) ≡ true → Finishes n rust (settled s t row f)) (λ above h. absurd (not-both h refl))
+      (λ above. by-pick (firstRefused sp (answerOf result)) (λ (f : Fate). compared (settled s t row f .1) ≡ true → Finishes n rust (settled s t row f)) (λ first. absurd (not-both first (not-first sp result)))
+      (λ first. by-pick (goesOn piece sp (answerOf result) back) (λ (f : Fate). compared (settled s t row f .1) ≡ true → Finishes n rust (settled s t row f)) (λ onward h. next-square above onward) (λ stops h. last-square above stops)))
 
 -- by what the row awaits
 module _ (s : State) (i : Sound s) (n t : ℕ) (found : names (rowAt s (rowOf t)) t ≡ true) (result : RawResult) (back : Bool) where
   awaited : (a : Awaits) → rowAt s (rowOf t) .awaits ≡ a
       → compared (settled s t (rowAt s (rowOf t)) (answerRules (s .settings) (planOf (regionAt s (rowAt s (rowOf t) .handle))) (regionAt s (rowAt s (rowOf t) .handle) .forced) (s .poison) (rowAt s (rowOf t)) (bytesAt s (rowAt s (rowOf t) .buffer)) (answerOf result) back n a) .1) ≡ true
-      → Same n (finish (submitterOf s n) t (returned back (bufOf s (rowAt s (rowOf t) .buffer) (pieceIn s (rowAt s (rowOf t)) a))) result)
+      → Finishes n (finish (submitterOf s n) t (returned back (bufOf s (rowAt s (rowOf t) .buffer) (pieceIn s (rowAt s (rowOf t)) a))) result)
       (settled s t (rowAt s (rowOf t)) (answerRules (s .settings) (planOf (regionAt s (rowAt s (rowOf t) .handle))) (regionAt s (rowAt s (rowOf t) .handle) .forced) (s .poison) (rowAt s (rowOf t)) (bytesAt s (rowAt s (rowOf t) .buffer)) (answerOf result) back n a))
   unfolding answerRules pieceIn settled compared number
   awaited Nothing e h = absurd (not-both h refl)
@@ -335,7 +335,7 @@ module _ (s : State) (i : Sound s) (n t : ℕ) (found : names (rowAt s (rowOf t)
 
 -- the square
 pub finish-square : (s : State) (l : Lengths) (t : ℕ) (result : RawResult) (back : Bool) (n : ℕ) → Sound s → compared (step s l (Answers t (answerOf result) back n) .1) ≡ true
-    → Same n (finish (submitterOf s n) t (returned back (inFlight s t)) result) (step s l (Answers t (answerOf result) back n))
+    → Finishes n (finish (submitterOf s n) t (returned back (inFlight s t)) result) (step s l (Answers t (answerOf result) back n))
 unfolding called fateOf rules inFlight
 finish-square s l t result back n i h =
     let e = called-step s l (Answers t (answerOf result) back n) h in

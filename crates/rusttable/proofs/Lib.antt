@@ -18,3 +18,5 @@ pub mod Asking
 pub mod Submitting
 pub mod Writing
 pub mod Reading
+pub mod Leaving
+pub mod AsStep

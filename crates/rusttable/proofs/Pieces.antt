@@ -49,7 +49,7 @@ use Rattle.rusttable.specs.AsStep.{bufOf, splitOf, liveOf, rowAs, tableO
 use Rattle.rusttable.proofs.Rows.{Has, live-is, has-put, has-live}
 use Rattle.rusttable.proofs.Handed.{bufAs, own-onward, onward-put}
 use Rattle.rusttable.proofs.Concluding.{resultFor, isRefused, within, carried, operationOf, read-ends, write-ends}
-use Rattle.rusttable.proofs.Carried.{Same, Ended, last-ended, carried-put, carried-settled}
+use Rattle.rusttable.proofs.Carried.{Ended, last-ended, carried-put, carried-settled}
 use Rattle.rusttable.proofs.Turning.{turn-whole, next-turned, order-back}
 use Rattle.rusttable.proofs.Within.{called-step, Found, found-under}
 

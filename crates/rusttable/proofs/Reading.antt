@@ -44,10 +44,10 @@ use Rattle.rusttable.specs.Table.{Result, Result.Ok, Result.Err, IoBuf, 
 use Rattle.rusttable.specs.Table.{NotWrittenCause, NotWrittenCause.ForeignPosition, NotWrittenCause.ForeignBuffer, NotWrittenCause.QueueFull, NotWrittenCause.StaleGeneration, NotWrittenCause.NotReady, NotWrittenCause.ReadOnly, NotWrittenCause.Empty, NotWrittenCause.Misaligned, NotWrittenCause.OutOfBounds}
 use Rattle.rusttable.specs.Functions.{tried, ctx, «ctx_range», «not_written», enter, admit, FirstPiece, «first_piece», submit, issue, issuedWith, rejected, readError, read, «read_page»}
 use Rattle.rusttable.specs.Domain.{compared}
-use Rattle.rusttable.specs.AsStep.{bufOf, contextOf, contextAs, errorAs, splitOf, tableOf, storeOf, submitterOf, posOf, refusalOf, refusedError, reqAs, issuedAs}
+use Rattle.rusttable.specs.AsStep.{bufOf, contextOf, contextAs, errorAs, splitOf, tableOf, storeOf, submitterOf, posOf, refusalOf, refusedError, reqAs, issuedAs, Submits}
 use Rattle.rusttable.proofs.Asking.{by-ask, by-gate, not-or, zero-test}
 use Rattle.rusttable.proofs.Issuing.{first-is, issue-is}
-use Rattle.rusttable.proofs.Submitting.{Submits, settledAs, taken-is, refused-is}
+use Rattle.rusttable.proofs.Submitting.{settledAs, taken-is, refused-is}
 use Rattle.rusttable.proofs.Writing.{admit-foreign, admit-full, admit-gate, turned, no-reply-of, is-piece}
 use Rattle.rusttable.proofs.Within.{called-step}
 

@@ -45,11 +45,11 @@ use Rattle.rusttable.specs.Table.{Result.Ok, Result.Err, IoBuf, RawError
 use Rattle.rusttable.specs.Table.{Row as RustRow}
 use Rattle.rusttable.specs.Functions.{«set_len», rotated, given, isSome, mapOk, returned, put, rowWith, withSplit, withTable, asRead, region, release, «not_written», «ctx_range», refusedAs, conclude, «refused_next»}
 use Rattle.rusttable.specs.Domain.{compared}
-use Rattle.rusttable.specs.AsStep.{isLater, refusalOf, contextOf, outcomeOf, bufOf, splitOf, liveOf, rowAs, tableOf, storeOf, submitterOf, pieceIn, inFlight, answerOf, finishAs}
+use Rattle.rusttable.specs.AsStep.{Finishes, isLater, refusalOf, contextOf, outcomeOf, bufOf, splitOf, liveOf, rowAs, tableOf, storeOf, submitterOf, pieceIn, inFlight, answerOf, finishAs}
 use Rattle.rusttable.proofs.Rows.{Has, live-is, has-put, has-live}
 use Rattle.rusttable.proofs.Handed.{bufAs}
 use Rattle.rusttable.proofs.Concluding.{resultFor, isRefused, within, carried, operationOf, read-ends, write-ends}
-use Rattle.rusttable.proofs.Carried.{Same, Ended, last-ended, carried-put, carried-settled}
+use Rattle.rusttable.proofs.Carried.{Ended, last-ended, carried-put, carried-settled}
 use Rattle.rusttable.proofs.Turning.{turn-whole, next-turned, order-back}
 use Rattle.rusttable.proofs.Pieces.{Placed, its-place, long, placed, its-live, there, has, some-bytes, Told, kind-ends}
 use Rattle.rusttable.proofs.Within.{called-step, Found, found-under}
@@ -179,7 +179,7 @@ module _ (s : State) (i : Sound s) (n t : ℕ) (found : names (rowAt s (rowOf t)
     fed-is =
         ap (λ (a : Awaits). answerRules (s .settings) g (regionAt s (row .handle) .forced) (s .poison) row bytes (refusalOf raw) back n a) awaits ∙ fate-is
 
-    refused-square : Same n (rust raw) (settled s t row fate)
+    refused-square : Finishes n (rust raw) (settled s t row fate)
     refused-square =
         rw (fate-is, refused-ends raw)
         (carried-settled s i n t found live (there s i t found k sp awaits) same-tag k (last raw) (rw fed-is at (fate-fits s row (fedAnswer (refusalOf raw) back n)))
@@ -188,7 +188,7 @@ module _ (s : State) (i : Sound s) (n t : ℕ) (found : names (rowAt s (rowOf t)
 -- by what the row awaits
 module _ (s : State) (i : Sound s) (n t : ℕ) (found : names (rowAt s (rowOf t)) t ≡ true) (raw : Option RawError) (back : Bool) where
   awaited : (a : Awaits) → rowAt s (rowOf t) .awaits ≡ a → isLater a ≡ true
-      → Same n («refused_next» (submitterOf s n) t (returned back (bufOf s (rowAt s (rowOf t) .buffer) (pieceIn s (rowAt s (rowOf t)) a))) raw)
+      → Finishes n («refused_next» (submitterOf s n) t (returned back (bufOf s (rowAt s (rowOf t) .buffer) (pieceIn s (rowAt s (rowOf t)) a))) raw)
       (settled s t (rowAt s (rowOf t)) (answerRules (s .settings) (planOf (regionAt s (rowAt s (rowOf t) .handle))) (regionAt s (rowAt s (rowOf t) .handle) .forced) (s .poison) (rowAt s (rowOf t)) (bytesAt s (rowAt s (rowOf t) .buffer)) (refusalOf raw) back n a))
   unfolding answerRules pieceIn isLater
   awaited Nothing e later = absurd (not-both later refl)
@@ -198,7 +198,7 @@ module _ (s : State) (i : Sound s) (n t : ℕ) (found : names (rowAt s (rowOf t)
 -- the square
 pub refused-next-square : (s : State) (l : Lengths) (t : ℕ) (raw : Option RawError) (back : Bool) (n : ℕ) → Sound s → compared (step s l (Answers t (refusalOf raw) back n) .1) ≡ true
     → isLater (rowAt s (rowOf t) .awaits) ≡ true
-    → Same n («refused_next» (submitterOf s n) t (returned back (inFlight s t)) raw) (step s l (Answers t (refusalOf raw) back n))
+    → Finishes n («refused_next» (submitterOf s n) t (returned back (inFlight s t)) raw) (step s l (Answers t (refusalOf raw) back n))
 unfolding called fateOf rules inFlight
 refused-next-square s l t raw back n i h later =
     let e = called-step s l (Answers t (refusalOf raw) back n) h in

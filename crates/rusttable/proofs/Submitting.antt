@@ -40,15 +40,10 @@ use Rattle.step.proofs.AloneTags.{row-of-tag}
 use Rattle.rusttable.specs.Table.{Result.Ok, Result.Err, IoBuf, RawError, Error, Error.NotWritten, Error.Io, NotWrittenCause.QueueFull, Rejected as Rejection, Table, Store, Submitter, Req, Submitted, Submitted.Taken, Submitted.Refused, Issued, Issued.Submit, Issued.Reject}
 use Rattle.rusttable.specs.Functions.{indexIn, withTable, returned, whole, bufIn, abort, Told, submit, toldAs, issuedWith}
 use Rattle.rusttable.specs.Domain.{compared}
-use Rattle.rusttable.specs.AsStep.{bufOf, backOf, contextOf, splitOf, tableOf, storeOf, submitterOf, refusalOf, refusedError, reqAs, issuedAs}
+use Rattle.rusttable.specs.AsStep.{bufOf, backOf, contextOf, splitOf, tableOf, storeOf, submitterOf, refusalOf, refusedError, reqAs, issuedAs, Submits}
 use Rattle.rusttable.proofs.Issuing.{piece-alike, same-bytes}
 use Rattle.rusttable.proofs.Aborting.{aborted, store-kept, whole-back, rejects-with}
 use Rattle.rusttable.proofs.Within.{called-step, Found, found-under}
-
--- the Rust's submission is step's
-pub record Submits (n : ℕ) (w : Bool) (buf : IoBuf) (rust : Submitter × Issued) (after : State × Reply) : Type 0 where
-  pub state : rust .0 ≡ submitterOf (after .0) n
-  pub reply : some (rust .1) ≡ issuedAs w (after .0) buf (after .1)
 
 -- what becomes of a submission whose questions are answered
 abbrev pub settledAs : State → Kind → Request → Asked → State × Reply

@@ -17,7 +17,7 @@ use Rattle.rusttable.specs.Table.{Table}
 use Rattle.rusttable.specs.Table.{Completion as RustCompletion}
 use Rattle.rusttable.specs.Functions.{Popped, popFront, next}
 use Rattle.rusttable.specs.Domain.{compared}
-use Rattle.rusttable.specs.AsStep.{bufOf, backOf, completionAs, rowAs, tableOf, storeOf, frontAs}
+use Rattle.rusttable.specs.AsStep.{bufOf, backOf, completionAs, rowAs, tableOf, storeOf, frontAs, Takes}
 use Rattle.rusttable.proofs.Lists.{map-same}
 use Rattle.rusttable.proofs.Frames.{same-row}
 use Rattle.rusttable.proofs.Within.{called-step}
@@ -39,11 +39,6 @@ module _ (s s′ : State) (regions : s′ .regions ≡ s .regions) (bytes : (b :
   pub rows-alike : (rows : List Row) → map (rowAs s′) rows ≡ map (rowAs s) rows
   rows-alike rows = map-same (rowAs s) (rowAs s′) (λ x. same-row s s′ regions x (λ live. bytes (x .buffer))) rows
 
-pub record Took (n : ℕ) (s : State) (popped : Popped) (after : State × Reply) : Type 0 where
-  pub table : popped .table ≡ tableOf (after .0)
-  pub store : storeOf (after .0) n ≡ storeOf s n
-  pub front : some (popped .front) ≡ frontAs (after .0) (after .1)
-
 module _ (s : State) (c : Completion) (more : List Completion) where
   abbrev after : State
   after = taken s (c ∷ more) .0
@@ -60,15 +55,15 @@ module _ (s : State) (c : Completion) (more : List Completion) where
   unfolding taken popFront tableOf
   table-alike = rw (rows-alike s after same-regions same-bytes (s .rows), completions-alike s after same-regions same-bytes more) refl
 
-  took-one : (n : ℕ) → Took n s (popFront (tableOf s) (map (completionAs s) (c ∷ more))) (taken s (c ∷ more))
+  took-one : (n : ℕ) → Takes n s (popFront (tableOf s) (map (completionAs s) (c ∷ more))) (taken s (c ∷ more))
   unfolding popFront taken frontAs storeOf
   took-one n = record { table = table-alike; store = refl; front = ap (λ (z : RustCompletion). some (some z)) (sym (completion-alike s after same-regions same-bytes c)) }
 
-took : (n : ℕ) (s : State) (cs : List Completion) → s .ready ≡ cs → Took n s (popFront (tableOf s) (map (completionAs s) cs)) (taken s cs)
+took : (n : ℕ) (s : State) (cs : List Completion) → s .ready ≡ cs → Takes n s (popFront (tableOf s) (map (completionAs s) cs)) (taken s cs)
 unfolding popFront taken frontAs
 took n s [] e = record { table = refl; store = refl; front = refl }
 took n s (c ∷ more) e = took-one s c more n
 
-pub take-square : (s : State) (l : Lengths) (n : ℕ) → compared (step s l Take .1) ≡ true → Took n s (next (tableOf s)) (step s l Take)
+pub take-square : (s : State) (l : Lengths) (n : ℕ) → compared (step s l Take .1) ≡ true → Takes n s (next (tableOf s)) (step s l Take)
 unfolding called next tableOf
 take-square s l n h = rw (called-step s l Take h) (took n s (s .ready) refl)

@@ -45,10 +45,10 @@ use Rattle.rusttable.specs.Table.{Result, Result.Ok, Result.Err, IoBuf, 
 use Rattle.rusttable.specs.Table.{NotWrittenCause, NotWrittenCause.ForeignPosition, NotWrittenCause.ForeignBuffer, NotWrittenCause.QueueFull, NotWrittenCause.StaleGeneration, NotWrittenCause.NotReady, NotWrittenCause.ReadOnly, NotWrittenCause.Empty, NotWrittenCause.Misaligned, NotWrittenCause.OutOfBounds}
 use Rattle.rusttable.specs.Functions.{tried, ctx, «ctx_range», noContext, «not_written», refused, unpoisoned, ready, «ready_for», enter, owns, full, admit, check, FirstPiece, «first_piece», Told, submit, issue, toldAs, issuedWith, rejected, write}
 use Rattle.rusttable.specs.Domain.{compared}
-use Rattle.rusttable.specs.AsStep.{bufOf, contextOf, contextAs, errorAs, splitOf, tableOf, storeOf, submitterOf, posOf, refusalOf, refusedError, reqAs, issuedAs}
+use Rattle.rusttable.specs.AsStep.{bufOf, contextOf, contextAs, errorAs, splitOf, tableOf, storeOf, submitterOf, posOf, refusalOf, refusedError, reqAs, issuedAs, Submits}
 use Rattle.rusttable.proofs.Asking.{by-ask, by-gate, by-poison, not-or, zero-test, full-test}
 use Rattle.rusttable.proofs.Issuing.{first-is, issue-is}
-use Rattle.rusttable.proofs.Submitting.{Submits, settledAs, taken-is, refused-is}
+use Rattle.rusttable.proofs.Submitting.{settledAs, taken-is, refused-is}
 use Rattle.rusttable.proofs.Within.{called-step}
 
 -- ---- admission, of a write and of a read

@@ -3,9 +3,11 @@ use mathlib.Core.Path.{_≡_}
 use mathlib.Core.Bool.{Bool, true, false}
 use mathlib.Core.List.{List, map}
 use mathlib.Core.Option.{Option, none, some, Option·map}
-use Prim.Native.Nat.{ℕ, _-_}
+use Prim.Native.Nat.{ℕ, _+_, _-_, _≤_, _<_}
 use lib.Dec.{ltb, eqb}
 use Rattle.layout.specs.Pick.{pick}
+use Rattle.regionmap.specs.declared.Offset.{Offset}
+use Rattle.regionmap.specs.Map.{Map, runOf}
 use Rattle.domain.specs.declared.Op.{Op}
 use Rattle.domain.specs.declared.OsError.{OsError}
 use Rattle.domain.specs.declared.OsError.the-variants.{None as noError, Raw}
@@ -13,6 +15,7 @@ use Rattle.platform.specs.declared.Answer.{Answer}
 use Rattle.platform.specs.declared.Answer.the-variants.{Count, Error as Failed, Refused, RefusedWith}
 use Rattle.platform.specs.declared.Flushed.{Flushed as FlushResult}
 use Rattle.platform.specs.declared.Flushed.the-variants.{Need, Unknown as unsure, Poisoned as failedBy}
+use Rattle.completion.specs.declared.WriteTicket.{WriteTicket}
 use Rattle.completion.specs.declared.Range.{Range}
 use Rattle.completion.specs.declared.Context.{Context}
 use Rattle.completion.specs.declared.Context.the-variants.{None as bare, Region as withRegion, Range as withRange}
@@ -25,6 +28,7 @@ use Rattle.completion.specs.declared.Buffer.the-variants.{Back, Lost}
 use Rattle.completion.specs.declared.Completion.{Completion}
 use Rattle.completion.specs.declared.Reply.{Reply}
 use Rattle.completion.specs.declared.Reply.the-variants.{Piece as piece, No as turnedAway, Rejected as rejectedFirst, Done as isDone, Flush as flushAsked, Took, None as noneReady, Ok as isOk, Writes, Mark}
+use Rattle.model.specs.declared.Opening.{Opening}
 use Rattle.model.specs.declared.Lengths.{Lengths}
 use Rattle.model.specs.declared.Kind.{Kind}
 use Rattle.model.specs.declared.Kind.the-variants.{Page, Read as Reads}
@@ -34,18 +38,20 @@ use Rattle.model.specs.declared.Awaits.the-variants.{Nothing, Piece, Flush as A
 use Rattle.model.specs.declared.Row.{Row}
 use Rattle.model.specs.declared.Request.{Request}
 use Rattle.model.specs.declared.Call.{Call}
-use Rattle.model.specs.declared.Call.the-variants.{Write, ReadPage, Answer as Answers, Flushed as FlushedCall, Take}
+use Rattle.model.specs.declared.Call.the-variants.{Write, ReadPage, Answer as Answers, Flushed as FlushedCall, Take, SetGate, SetReadOnly, SetForced, ReportPoison}
 use Rattle.model.specs.State.{State}
-use Rattle.model.specs.Opening.{Plan}
+use Rattle.model.specs.Opening.{Plan, opened}
 use Rattle.step.specs.Questions.{regionAt}
-use Rattle.step.specs.Rules.{pieceLength}
-use Rattle.step.specs.Step.{rowAt, rowOf, bytesAt, planOf, writesIn, step}
+use Rattle.step.specs.Rules.{firstOf, pieceLength}
+use Rattle.step.specs.Step.{rowAt, rowOf, names, bytesAt, planOf, writesIn, step}
 use Rattle.step.specs.Sound.{Sound}
+use Rattle.step.specs.Laws.{leave}
+use Rattle.step.specs.Lists.{HostMay}
 use Rattle.rusttable.specs.Table.{Result, Result.Ok, Result.Err, IoBuf, RawError, RawResult, ByteRange, ErrorContext, Error, Flushed, Written, Held, Live, Table, Finish, Store, Submitter, RegionPos, Req, Submitted, Issued}
 use Rattle.rusttable.specs.Table.{Outcome as RustOutcome, Completion as RustCompletion, Row as RustRow}
 use Rattle.rusttable.specs.Table.{NotWrittenCause, NotWrittenCause.ForeignPosition, NotWrittenCause.ForeignBuffer, NotWrittenCause.QueueFull, NotWrittenCause.StaleGeneration, NotWrittenCause.NotReady, NotWrittenCause.ReadOnly, NotWrittenCause.Empty, NotWrittenCause.Misaligned, NotWrittenCause.OutOfBounds, NotWrittenCause.Interrupted}
-use Rattle.rusttable.specs.Table.{Error.NotWritten, Error.Poisoned, Error.Io, Error.DurabilityUnknown, Error.Corruption, Done.Wrote, Done.Read, Finish.Finished, Finish.Flush, Finish.Next, Req.WriteAt, Req.ReadAt, Submitted.Taken, Issued.Submit, Issued.Reject}
-use Rattle.rusttable.specs.Functions.{returned, finish, «refused_next», abort, flushed, next, Popped, write, «read_page», new}
+use Rattle.rusttable.specs.Table.{Error.NotWritten, Error.Poisoned, Error.Io, Error.DurabilityUnknown, Error.Corruption, Done.Wrote, Done.Read, Finish.Finished, Finish.Flush, Finish.Next, Req.WriteAt, Req.ReadAt, Submitted.Taken, Submitted.Refused as QueueRefuses, Issued.Submit, Issued.Reject}
+use Rattle.rusttable.specs.Functions.{«receipt_for», «durable_receipt», indexIn, returned, finish as rustFinish, «refused_next», abort as rustAbort, flushed as rustFlushed, next, Popped, write as rustWrite, «read_page», new as rustNew}
 use Rattle.rusttable.specs.Domain.{InDomain}
 
 -- ---- the state as the Rust's
@@ -215,3 +221,86 @@ issuedAs w s buf noneReady = none
 issuedAs w s buf isOk = none
 issuedAs w s buf (Writes b) = none
 issuedAs w s buf (Mark n) = none
+
+-- ---- the squares
+
+-- the Rust's submitter is that of step's next state, where so many flushes were issued, and what it hands back is the reply
+pub record Finishes (issued : ℕ) (rust : Submitter × Finish) (after : State × Reply) : Type 0 where
+  pub state : rust .0 ≡ submitterOf (after .0) issued
+  pub reply : some (rust .1) ≡ finishAs (after .0) (after .1)
+
+pub record Submits (issued : ℕ) (w : Bool) (buf : IoBuf) (rust : Submitter × Issued) (after : State × Reply) : Type 0 where
+  pub state : rust .0 ≡ submitterOf (after .0) issued
+  pub reply : some (rust .1) ≡ issuedAs w (after .0) buf (after .1)
+
+pub record Takes (issued : ℕ) (s : State) (popped : Popped) (after : State × Reply) : Type 0 where
+  pub table : popped .table ≡ tableOf (after .0)
+  pub store : storeOf (after .0) issued ≡ storeOf s issued
+  pub front : some (popped .front) ≡ frontAs (after .0) (after .1)
+
+-- What the Rust asserts of the piece under way: it moves the operation on (`finish`), its buffer has room for the whole operation (`set_len`), and its range lies
+-- within the data and within one run (`RegionMap::locate`).
+pub record Asserts (m : Map) (start : ℕ) (sp : Split) (count capacity : ℕ) : Type 0 where
+  pub moves : sp .done < sp .done + count
+  pub most : sp .done + count ≤ sp .total
+  pub room : sp .total ≤ capacity
+  pub in-data : start + sp .done + count ≤ m .dataLength
+  pub in-run : start + sp .done + count ≤ runOf m (start + sp .done) .end
+
+-- the calls that set a mark of a region, or report poison
+unfoldable pub isSetting : Call → Bool
+isSetting (Write q) = false
+isSetting (ReadPage q) = false
+isSetting (Answers t a back flushes) = false
+isSetting (FlushedCall t result) = false
+isSetting Take = false
+isSetting (SetGate h x) = true
+isSetting (SetReadOnly h x) = true
+isSetting (SetForced h x) = true
+isSetting (ReportPoison cause) = true
+
+-- of every sound table, and every call in the domain of the comparison. Proved in proofs/AsStep.antt (as-step).
+pub record AsStep : Type 0 where
+  -- `Table::new`
+  pub new : (o : Opening) (plans : List Plan) (l : Lengths) (pool : List ℕ) → rustNew (o .depth) ≡ tableOf (opened o plans l pool)
+  -- `Submitter::write`, with a queue that takes the first piece; and with one that refuses it at once: in step the answer that follows
+  pub write : (before : Option ℕ) (s : State) (l : Lengths) (q : Request) (issued : ℕ) → Sound s → InDomain before s l (Write q)
+      → Submits issued true (bufOf s (q .buffer) (q .length)) (rustWrite (submitterOf s issued) (q .handle) (posOf q) (bufOf s (q .buffer) (q .length)) (q .durable) (q .tag) Taken) (step s l (Write q))
+  pub write-refused : (before : Option ℕ) (s : State) (l : Lengths) (q : Request) (issued : ℕ) → Sound s → InDomain before s l (Write q)
+      → (t : ℕ) (offset : Offset) (count b : ℕ) → step s l (Write q) .1 ≡ piece t offset count b
+      → (raw : Option RawError) (back : Bool) (flushes : ℕ) → InDomain (some t) (step s l (Write q) .0) l (Answers t (refusalOf raw) back flushes)
+      → Submits issued true (bufOf s (q .buffer) (q .length)) (rustWrite (submitterOf s issued) (q .handle) (posOf q) (bufOf s (q .buffer) (q .length)) (q .durable) (q .tag) (QueueRefuses raw back))
+      (step (step s l (Write q) .0) l (Answers t (refusalOf raw) back flushes))
+  -- `Submitter::read_page`, likewise
+  pub read : (before : Option ℕ) (s : State) (l : Lengths) (q : Request) (issued : ℕ) → Sound s → InDomain before s l (ReadPage q)
+      → Submits issued false (bufOf s (q .buffer) (q .length)) («read_page» (submitterOf s issued) (q .handle) (posOf q) (bufOf s (q .buffer) (q .length)) (q .tag) Taken) (step s l (ReadPage q))
+  pub read-refused : (before : Option ℕ) (s : State) (l : Lengths) (q : Request) (issued : ℕ) → Sound s → InDomain before s l (ReadPage q)
+      → (t : ℕ) (offset : Offset) (count b : ℕ) → step s l (ReadPage q) .1 ≡ piece t offset count b
+      → (raw : Option RawError) (back : Bool) (flushes : ℕ) → InDomain (some t) (step s l (ReadPage q) .0) l (Answers t (refusalOf raw) back flushes)
+      → Submits issued false (bufOf s (q .buffer) (q .length)) («read_page» (submitterOf s issued) (q .handle) (posOf q) (bufOf s (q .buffer) (q .length)) (q .tag) (QueueRefuses raw back))
+      (step (step s l (ReadPage q) .0) l (Answers t (refusalOf raw) back flushes))
+  -- `Table::finish`, of a count or an error; the flush count is the answer's
+  pub finish : (before : Option ℕ) (s : State) (l : Lengths) (t : ℕ) (result : RawResult) (back : Bool) (flushes : ℕ) → Sound s → InDomain before s l (Answers t (answerOf result) back flushes)
+      → Finishes flushes (rustFinish (submitterOf s flushes) t (returned back (inFlight s t)) result) (step s l (Answers t (answerOf result) back flushes))
+  -- `Table::refused_next`, of a later piece
+  pub refused-next : (before : Option ℕ) (s : State) (l : Lengths) (t : ℕ) (raw : Option RawError) (back : Bool) (flushes : ℕ) → Sound s → InDomain before s l (Answers t (refusalOf raw) back flushes)
+      → isLater (rowAt s (rowOf t) .awaits) ≡ true
+      → Finishes flushes («refused_next» (submitterOf s flushes) t (returned back (inFlight s t)) raw) (step s l (Answers t (refusalOf raw) back flushes))
+  -- `Table::abort`, of a first piece: the table, and a store that nothing poisons
+  pub abort : (before : Option ℕ) (s : State) (l : Lengths) (t : ℕ) (raw : Option RawError) (back : Bool) (flushes : ℕ) → Sound s → InDomain before s l (Answers t (refusalOf raw) back flushes)
+      → isLater (rowAt s (rowOf t) .awaits) ≡ false
+      → (rustAbort (tableOf s) (indexIn t) ≡ tableOf (step s l (Answers t (refusalOf raw) back flushes) .0)) × (storeOf (step s l (Answers t (refusalOf raw) back flushes) .0) flushes ≡ storeOf s flushes)
+  -- `Table::flushed`
+  pub flushed : (before : Option ℕ) (s : State) (l : Lengths) (t : ℕ) (result : FlushResult) (issued : ℕ) → Sound s → InDomain before s l (FlushedCall t result)
+      → (rustFlushed (submitterOf s issued) t (flushedOf result) ≡ submitterOf (step s l (FlushedCall t result) .0) issued) × (step s l (FlushedCall t result) .1 ≡ isDone t)
+  -- `Completions::next`
+  pub take : (before : Option ℕ) (s : State) (l : Lengths) (issued : ℕ) → InDomain before s l Take → Takes issued s (next (tableOf s)) (step s l Take)
+  -- a setting or a report leaves the table as it was
+  pub settings : (s : State) (l : Lengths) (c : Call) → isSetting c ≡ true → tableOf (step s l c .0) ≡ tableOf s
+  -- so do the host's writes between calls, as document 01 allows them
+  pub leaves : (s : State) (pool : List ℕ) → Sound s → HostMay s pool → tableOf (leave s pool) ≡ tableOf s
+  -- io.rs's `receipt_for` is document 01's receipt
+  pub receipts : (store : Store) (t : WriteTicket) (need : ℕ) → «receipt_for» store t need ≡ «durable_receipt» store t need
+  -- what the Rust asserts
+  pub asserts : (s : State) (t : ℕ) (k : Kind) (sp : Split) → Sound s → names (rowAt s (rowOf t)) t ≡ true → rowAt s (rowOf t) .awaits ≡ Piece k sp
+      → Asserts (regionAt s (rowAt s (rowOf t) .handle) .map) (firstOf k .0) sp (pieceLength (planOf (regionAt s (rowAt s (rowOf t) .handle))) k sp) (s .settings .capacity)
