@@ -1,5 +1,4 @@
 -- The squares together: the Rust's functions on values are `step` in the domain of the comparison.
-use mathlib.Core.Path.{_≡_}
 use Rattle.rusttable.specs.AsStep.{AsStep}
 use Rattle.rusttable.proofs.Leaving.{new-table, settings-table, left-table, receipt-same, piece-asserts}
 use Rattle.rusttable.proofs.Flushing.{flushed-square}

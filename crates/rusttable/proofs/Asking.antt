@@ -1,8 +1,8 @@
 -- The first no of a list of questions, one question at a time; and the Rust's tests, which ask the other way round.
-use mathlib.Core.Path.{_≡_, refl, ap, sym, _∙_}
+use mathlib.Core.Path.{_≡_, refl, ap}
 use mathlib.Core.Bool.{Bool, true, false, not, _&&_, _||_}
 use mathlib.Core.List.{List, _∷_}
-use Prim.Native.Nat.{ℕ, _≤_, _<_}
+use Prim.Native.Nat.{ℕ}
 use native.Mathlib.Omega.{arith}
 use borrow.Author.Tests.{ltb-true, ltb-false, eq-eqb, ne-eqb, le-leb, lt-leb}
 use lib.Dec.{leb, ltb, eqb}
@@ -15,7 +15,7 @@ use Rattle.completion.specs.declared.Refusal.the-variants.{StaleGeneration, Not
 use Rattle.model.specs.declared.Gate.{Gate}
 use Rattle.model.specs.declared.Gate.the-variants.{Open, Recycled, Released}
 use Rattle.model.specs.declared.Asked.{Asked}
-use Rattle.model.specs.declared.Asked.the-variants.{Yes, No}
+use Rattle.model.specs.declared.Asked.the-variants.{No}
 use Rattle.step.specs.Questions.{ask, firstNo, gateOpen, unpoisoned}
 
 pub by-ask : (b : Bool) (f : Refusal) (more : List Asked) (P : Asked → Type 0) → (b ≡ true → P (firstNo more)) → (b ≡ false → P (No f)) → P (firstNo (ask b f ∷ more))

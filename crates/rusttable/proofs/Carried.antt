@@ -1,15 +1,12 @@
 -- What the rules say of an operation's end, carried into the Rust's table, is `step`'s next state, and the reply is what the Rust hands back.
-use mathlib.Core.Path.{_≡_, refl, ap, sym, _∙_}
-use mathlib.Core.Bool.{Bool, true, false, _||_}
+use mathlib.Core.Path.{_≡_, refl, ap, _∙_}
+use mathlib.Core.Bool.{Bool, true, _||_}
 use mathlib.Core.List.{List}
-use mathlib.Core.Option.{Option, none, some}
+use mathlib.Core.Option.{some}
 use Prim.Native.Nat.{ℕ, _-_}
 use lib.ListN.{length}
 use Rattle.domain.specs.declared.Poisoned.{Poisoned}
 use Rattle.platform.specs.declared.Answer.{Answer}
-use Rattle.completion.specs.declared.Reply.{Reply}
-use Rattle.completion.specs.declared.WriteTicket.{WriteTicket}
-use Rattle.completion.specs.declared.Buffer.{Buffer}
 use Rattle.model.specs.declared.Opening.{Opening}
 use Rattle.model.specs.declared.Kind.{Kind}
 use Rattle.model.specs.declared.Kind.the-variants.{Page, Read as Reads}
@@ -26,10 +23,10 @@ use Rattle.step.proofs.Picked.{by-pick}
 use Rattle.step.proofs.Named.{named-live, named-below}
 use Rattle.step.proofs.Buffers.{bytes-length}
 use Rattle.step.proofs.Fates.{Fitting, FateFits}
-use Rattle.rusttable.specs.Table.{Live, Table, Finish, Submitter}
+use Rattle.rusttable.specs.Table.{Live, Table}
 use Rattle.rusttable.specs.Table.{Row as RustRow}
-use Rattle.rusttable.specs.Functions.{put, withHeld, withTable, release}
-use Rattle.rusttable.specs.AsStep.{bufOf, liveOf, rowAs, tableOf, storeOf, submitterOf, finishAs, Finishes}
+use Rattle.rusttable.specs.Functions.{put, withHeld, withTable}
+use Rattle.rusttable.specs.AsStep.{bufOf, liveOf, tableOf, storeOf, submitterOf, finishAs, Finishes}
 use Rattle.rusttable.proofs.Rows.{Has, put-twice, put-released}
 use Rattle.rusttable.proofs.Handed.{bufAs, ends-released, own-onward, onward-put}
 use Rattle.rusttable.proofs.Concluding.{carriedFlush, carried, operationOf}

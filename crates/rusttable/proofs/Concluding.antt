@@ -1,15 +1,15 @@
 -- `Table::conclude` is the rules' end of a piece after which none is issued: the same outcome, the same poison, the row released with it or kept for its flush.
-use mathlib.Core.Path.{_≡_, refl, ap, sym, _∙_}
+use mathlib.Core.Path.{_≡_, refl, sym, _∙_}
 use mathlib.Core.Bool.{Bool, true, false, _&&_, _||_}
 use mathlib.Core.List.{List}
-use mathlib.Core.Option.{Option, none, some, Option·map}
+use mathlib.Core.Option.{Option, none, some}
 use Prim.Native.Nat.{ℕ, _+_, _-_, _≤_, _<_}
 use native.Mathlib.Omega.{arith}
 use borrow.Author.Tests.{le-leb, ne-eqb}
 use lib.Dec.{eqb}
-use lib.ListN.{length, getD}
+use lib.ListN.{length}
 use Rattle.layout.specs.Pick.{pick}
-use Rattle.layout.proofs.Tests.{not-both, true-or-false}
+use Rattle.layout.proofs.Tests.{not-both}
 use Rattle.regionmap.specs.declared.Position.{Position}
 use Rattle.iobuf.specs.Turn.{turned}
 use Rattle.iobuf.proofs.Laws.{turn-laws}
@@ -21,7 +21,6 @@ use Rattle.domain.specs.declared.Poisoned.the-variants.{Never, First}
 use Rattle.platform.specs.declared.Answer.{Answer}
 use Rattle.platform.specs.declared.Answer.the-variants.{Count, Error as Failed, Refused, RefusedWith}
 use Rattle.completion.specs.declared.WriteTicket.{WriteTicket}
-use Rattle.completion.specs.declared.Range.{Range}
 use Rattle.completion.specs.declared.Outcome.the-variants.{Written as endsWritten, Unknown as endsUnknown}
 use Rattle.completion.specs.declared.Buffer.{Buffer}
 use Rattle.completion.specs.declared.Buffer.the-variants.{Back, Lost}
@@ -31,15 +30,14 @@ use Rattle.model.specs.declared.Split.{Split}
 use Rattle.model.specs.declared.Awaits.{Awaits}
 use Rattle.model.specs.declared.Awaits.the-variants.{Nothing, Piece, Flush as AwaitsFlush}
 use Rattle.model.specs.declared.Row.{Row}
-use Rattle.model.specs.State.{Region, noRegion, State}
-use Rattle.model.specs.Opening.{Plan}
+use Rattle.model.specs.State.{Region, State}
 use Rattle.step.specs.Questions.{regionAt}
 use Rattle.step.specs.Rules.{firstOf, lastOf, rangeOf, Fate, Fate.away, Fate.awaits, Fate.ends, Fate.rejected, bufferAs, errorOf, turnedBack, isWritten, causeOf, failedRead, readOutcome, readLength, ticketOf, unflushed, writtenAs, lastPiece}
 use Rattle.step.specs.Step.{poisonWith, planOf}
 use Rattle.step.proofs.Picked.{by-pick}
-use Rattle.rusttable.specs.Table.{Result, Result.Ok, Result.Err, IoBuf, RawError, RawResult, Error, Outcome, Written, Held, Live, Table, Finish, Store, Submitter, Done.Wrote, Done.Read, Finish.Finished, Finish.Flush}
+use Rattle.rusttable.specs.Table.{Result, Result.Ok, Result.Err, IoBuf, RawResult, Error, Outcome, Live, Table, Finish, Store, Submitter, Done.Wrote, Done.Read, Finish.Finished, Finish.Flush}
 use Rattle.rusttable.specs.Table.{Row as RustRow}
-use Rattle.rusttable.specs.Functions.{given, mapOk, «set_len», ctx, «ctx_range», «not_written», unknown, domainTicket, ticket, «settle_write», «settle_read», «durable_receipt», returned, put, withHeld, withTable, withStore, release, region, isFull, errIn, settleKind, settle, doneWrite, written, receipted, readLen, shortened, handBack, flushes, concluded, conclude}
+use Rattle.rusttable.specs.Functions.{given, mapOk, «set_len», «ctx_range», «not_written», unknown, domainTicket, ticket, «settle_write», «settle_read», «durable_receipt», put, withHeld, withTable, withStore, release, region, isFull, errIn, settleKind, settle, doneWrite, written, receipted, readLen, shortened, handBack, flushes, concluded, conclude}
 use Rattle.rusttable.specs.AsStep.{contextOf, outcomeOf, storeOf}
 use Rattle.rusttable.proofs.Rows.{Has, live-is}
 use Rattle.rusttable.proofs.Handed.{bufAs}

@@ -1,8 +1,7 @@
 -- `Table::flushed` is `step`'s flush result: the row awaits its flush, so it holds its buffer and its ticket, and is released with the receipt or the failure.
-use mathlib.Core.Path.{_≡_, refl, ap, sym, _∙_}
-use mathlib.Core.Bool.{Bool, true, false}
-use mathlib.Core.List.{List}
-use mathlib.Core.Option.{Option, none, some}
+use mathlib.Core.Path.{_≡_, refl, ap, _∙_}
+use mathlib.Core.Bool.{true}
+use mathlib.Core.Option.{none, some}
 use Prim.Native.Nat.{ℕ, _-_}
 use Rattle.layout.proofs.Tests.{not-both}
 use Rattle.platform.specs.declared.Flushed.{Flushed as FlushResult}
@@ -24,14 +23,14 @@ use Rattle.step.specs.Sound.{Sound}
 use Rattle.step.proofs.Named.{named-live, named-below}
 use Rattle.step.proofs.Buffers.{bytes-length}
 use Rattle.step.proofs.Fates.{Own}
-use Rattle.rusttable.specs.Table.{Flushed, Live, Held, Table, Store, Submitter}
+use Rattle.rusttable.specs.Table.{Flushed, Live, Held, Submitter}
 use Rattle.rusttable.specs.Table.{Row as RustRow}
-use Rattle.rusttable.specs.Functions.{given, withHeld, put, release, withTable, «in_range», «durable_receipt», flushDone, flushed}
+use Rattle.rusttable.specs.Functions.{given, withHeld, release, withTable, «in_range», «durable_receipt», flushDone, flushed}
 use Rattle.rusttable.specs.Domain.{compared}
-use Rattle.rusttable.specs.AsStep.{bufOf, contextOf, outcomeOf, liveOf, rowAs, tableOf, storeOf, submitterOf, flushedOf}
+use Rattle.rusttable.specs.AsStep.{bufOf, contextOf, outcomeOf, liveOf, rowAs, storeOf, submitterOf, flushedOf}
 use Rattle.rusttable.proofs.Rows.{Has, live-is, put-released, has-live}
 use Rattle.rusttable.proofs.Handed.{bufAs, ends-released}
-use Rattle.rusttable.proofs.Within.{called-step, Found, found-under}
+use Rattle.rusttable.proofs.Within.{called-step, found-under}
 
 -- the outcome
 same-outcome : (s : State) (n : ℕ) (h : Held) (result : FlushResult) → flushDone (storeOf s n) h (flushedOf result) ≡ outcomeOf (flushOutcome (s .settings) (h .ticket) result)

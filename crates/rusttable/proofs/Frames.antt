@@ -1,14 +1,12 @@
 -- The Rust's rows and completions of two states whose regions are the same: alike where the bytes of the buffers that they hold are.
-use mathlib.Core.Path.{_≡_, refl, ap, sym, _∙_}
+use mathlib.Core.Path.{_≡_, refl, ap}
 use mathlib.Core.Logic.{_≢_}
-use mathlib.Core.Bool.{Bool, true, false}
+use mathlib.Core.Bool.{true}
 use mathlib.Core.List.{List, [], _∷_, _++_, map, map-append}
-use mathlib.Core.Option.{Option, none, some}
-use Prim.Native.Nat.{ℕ, _+_, _-_, _<_}
-use native.Mathlib.Decide.{ℕ-discrete}
+use mathlib.Core.Option.{Option, none}
+use Prim.Native.Nat.{ℕ, _-_, _<_}
 use native.Mathlib.Omega.{arith}
 use lib.ListN.{length, getD, set}
-use Rattle.iobuf.specs.Turn.{stretch, withStretch}
 use Rattle.iobuf.specs.TurnLaws.{Fits}
 use Rattle.iobuf.proofs.Laws.{turn-laws}
 use Rattle.domain.specs.declared.FirstCause.{FirstCause}
@@ -20,17 +18,15 @@ use Rattle.model.specs.declared.Awaits.the-variants.{Nothing, Piece, Flush}
 use Rattle.model.specs.declared.Row.{Row}
 use Rattle.model.specs.State.{Owner, Owner.lost, State, freed, awaiting}
 use Rattle.step.specs.Questions.{regionAt}
-use Rattle.step.specs.Step.{rowAt, isLive, bytesAt, awaitsNow, going, freeing, oneLess, planOf}
-use Rattle.step.specs.Sound.{holds, readyHold, rowsHold, rowHolds, tableHas, Sound}
-use Rattle.step.proofs.Named.{one-live, live-one}
+use Rattle.step.specs.Step.{rowAt, isLive, bytesAt, awaitsNow, going, freeing, oneLess}
+use Rattle.step.specs.Sound.{holds, readyHold, Sound}
+use Rattle.step.proofs.Named.{one-live}
 use Rattle.step.proofs.Counts.{back-holds-own, has-most, holds-own, holds-none}
-use Rattle.step.proofs.Buffers.{in-pool, bytes-length}
+use Rattle.step.proofs.Buffers.{in-pool}
 use Rattle.step.proofs.Replaced.{hold-replaced}
 use Rattle.step.proofs.ProjectionHost.{sole}
-use Rattle.rusttable.specs.Table.{Table}
-use Rattle.rusttable.specs.Table.{Row as RustRow}
 use Rattle.rusttable.specs.Functions.{withRows}
-use Rattle.rusttable.specs.AsStep.{bufOf, backOf, completionAs, splitOf, liveOf, rowAs, tableOf}
+use Rattle.rusttable.specs.AsStep.{bufOf, backOf, completionAs, liveOf, rowAs, tableOf}
 use Rattle.rusttable.proofs.Lists.{map-set-alike}
 
 module _ (s s′ : State) (same : s′ .regions ≡ s .regions) where

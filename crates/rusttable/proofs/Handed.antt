@@ -1,10 +1,10 @@
 -- What becomes of a live row, carried into the Rust's table: `release` frees the row and hands the completion back, `put` leaves it awaiting its flush or its next
 -- piece, and the tables are those of `step`'s next state.
-use mathlib.Core.Path.{_≡_, refl, ap, sym, _∙_}
-use mathlib.Core.Bool.{Bool, true, false}
+use mathlib.Core.Path.{_≡_, refl, sym, _∙_}
+use mathlib.Core.Bool.{true}
 use mathlib.Core.List.{List, [], _∷_, _++_, map}
 use mathlib.Core.Option.{Option, none, some}
-use Prim.Native.Nat.{ℕ, _+_, _-_, _<_, _%_, _^_}
+use Prim.Native.Nat.{ℕ, _+_, _-_, _%_, _^_}
 use lib.ListN.{length, set}
 use Rattle.domain.specs.declared.FirstCause.{FirstCause}
 use Rattle.completion.specs.declared.Outcome.{Outcome}
@@ -12,7 +12,7 @@ use Rattle.completion.specs.declared.Buffer.{Buffer}
 use Rattle.completion.specs.declared.Buffer.the-variants.{Back, Lost}
 use Rattle.model.specs.declared.Awaits.{Awaits}
 use Rattle.model.specs.declared.Row.{Row}
-use Rattle.model.specs.State.{Owner, Owner.table, State}
+use Rattle.model.specs.State.{Owner.table, State}
 use Rattle.step.specs.Step.{rowAt, rowOf, names, raised, keptBy, completionOf, bytesAt, awaitsNow, going, freeing}
 use Rattle.step.specs.Sound.{Sound}
 use Rattle.step.proofs.Named.{named-live, named-below}
@@ -21,7 +21,7 @@ use Rattle.rusttable.specs.Table.{IoBuf, Live, Table}
 use Rattle.rusttable.specs.Functions.{indexIn, put, rowWith, withRows, release}
 use Rattle.rusttable.specs.AsStep.{bufOf, backOf, outcomeOf, completionAs, liveOf, rowAs, tableOf}
 use Rattle.rusttable.proofs.Frames.{own-going, table-going, own-freeing, table-freeing}
-use Rattle.rusttable.proofs.Rows.{Has, put-is, released, has-live}
+use Rattle.rusttable.proofs.Rows.{put-is, released, has-live}
 
 -- a buffer with its bytes
 unfoldable pub bufAs : Buffer → List ℕ → Option IoBuf

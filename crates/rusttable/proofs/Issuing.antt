@@ -1,26 +1,24 @@
 -- `first_piece` and `issue` are what `step` accepts: the row on top of the free stack, its queue tag, the first piece, and the operation in the row.
-use mathlib.Core.Path.{_≡_, refl, ap, sym, _∙_}
+use mathlib.Core.Path.{_≡_, refl, ap, _∙_}
 use mathlib.Core.Logic.{_⊎_, inl, inr}
-use mathlib.Core.Bool.{Bool, true, false}
-use mathlib.Core.List.{List, [], _∷_, map}
-use mathlib.Core.Option.{Option, none, some, Option·map}
-use Prim.Native.Nat.{ℕ, _+_, _-_, _*_, _≤_, _<_, _^_, min}
+use mathlib.Core.Bool.{true, false}
+use mathlib.Core.List.{_∷_, map}
+use mathlib.Core.Option.{Option, none, some}
+use Prim.Native.Nat.{ℕ, _+_, _≤_, _<_, min}
 use native.Mathlib.Nat.{add-zero, sub-zero}
 use native.Mathlib.Omega.{arith}
 use borrow.Author.Tests.{ltb-true, ltb-false, eq-eqb, ne-eqb}
-use lib.Dec.{ltb, eqb}
+use lib.Dec.{ltb}
 use lib.ListN.{length, getD, set, drop, length-map, List·getD-map}
 use lib.Seq.{drop-cons, getD-set-same, set-set}
 use Rattle.layout.specs.Pick.{pick}
 use Rattle.layout.proofs.Tests.{true-or-false}
-use Rattle.regionmap.specs.declared.Position.{Position}
 use Rattle.regionmap.specs.Map.{runLeft, place, pieceSize}
 use Rattle.model.specs.declared.Kind.{Kind}
 use Rattle.model.specs.declared.Split.{Split}
 use Rattle.model.specs.declared.Row.{Row}
 use Rattle.model.specs.declared.Request.{Request}
 use Rattle.model.specs.State.{Region, State, freed}
-use Rattle.model.specs.Opening.{Plan}
 use Rattle.step.specs.Questions.{regionAt}
 use Rattle.step.specs.Rules.{firstOf, pieceOf, pieceLength}
 use Rattle.step.specs.Step.{begun, queueTag, topOf, rowAt, durableAs, claimedBy, oneMore, accepted, bytesAt, planOf}
@@ -28,14 +26,13 @@ use Rattle.step.specs.Sound.{Sound}
 use Rattle.step.proofs.Answers.{Passed}
 use Rattle.step.proofs.Taken.{top-row}
 use Rattle.step.proofs.Buffers.{bytes-length}
-use Rattle.step.proofs.QuietRules.{piece-most}
-use Rattle.rusttable.specs.Table.{Result.Ok, Result.Err, IoBuf, RawError, Live, Table, Store, Submitter, Req, Submitted, Submitted.Taken, Submitted.Refused}
+use Rattle.rusttable.specs.Table.{IoBuf, Live, Table, Req, Submitted}
 use Rattle.rusttable.specs.Table.{Row as RustRow}
-use Rattle.rusttable.specs.Functions.{given, «set_len», emptyRow, Claim, popped, claim, rowWith, withRows, withTable, withSplit, start, «set_split», withOrNot, returned, whole, bufIn, abort, Told, submit, issue, FirstPiece, «first_piece»}
-use Rattle.rusttable.specs.AsStep.{bufOf, splitOf, liveOf, rowAs, completionAs, tableOf, storeOf, submitterOf}
+use Rattle.rusttable.specs.Functions.{given, emptyRow, popped, claim, rowWith, withRows, withSplit, start, «set_split», withOrNot, submit, issue, «first_piece»}
+use Rattle.rusttable.specs.AsStep.{bufOf, splitOf, liveOf, rowAs, completionAs, tableOf, submitterOf}
 use Rattle.rusttable.proofs.Lists.{map-set-alike}
 use Rattle.rusttable.proofs.Frames.{same-row}
-use Rattle.rusttable.proofs.Taking.{completions-alike, rows-alike}
+use Rattle.rusttable.proofs.Taking.{completions-alike}
 use Rattle.rusttable.proofs.Turning.{set-fits}
 
 module _ (s : State) (i : Sound s) (q : Request) (p : Passed s q) (k : Kind) (starts : firstOf k ≡ q .offset) where

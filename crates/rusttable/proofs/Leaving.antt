@@ -1,15 +1,14 @@
 -- The table at first, and what leaves it as it was: a setting, a report, and the host's writes between calls; the receipt of io.rs; what the Rust asserts.
-use mathlib.Core.Path.{_≡_, refl, ap, sym, subst, _∙_}
+use mathlib.Core.Path.{_≡_, refl, subst, _∙_}
 use mathlib.Core.Logic.{_⊎_, inl, inr}
 use mathlib.Core.Bool.{Bool, true, false, not, _&&_, _||_}
 use mathlib.Core.List.{List, [], _∷_, map}
-use mathlib.Core.Option.{Option, none, some}
+use mathlib.Core.Option.{some}
 use Prim.Native.Nat.{ℕ, zero, suc, _+_, _-_, _≤_, _<_, _^_}
 use native.Mathlib.Omega.{arith}
 use lib.Dec.{ltb, eqb}
-use lib.ListN.{length, getD, set, drop, replicate}
+use lib.ListN.{getD, set, drop, replicate}
 use Rattle.layout.proofs.Tests.{not-both}
-use Rattle.regionmap.specs.Map.{Map, runOf, pieceSize}
 use Rattle.regionmap.proofs.Laws.{map-laws}
 use Rattle.iobuf.specs.Turn.{stretch}
 use Rattle.domain.specs.declared.Poisoned.{Poisoned}
@@ -28,7 +27,7 @@ use Rattle.model.specs.declared.Awaits.the-variants.{Nothing, Piece, Flush as A
 use Rattle.model.specs.declared.Row.{Row}
 use Rattle.model.specs.declared.Call.{Call}
 use Rattle.model.specs.declared.Call.the-variants.{Write, ReadPage, Answer as Answers, Flushed as FlushedCall, Take, SetGate, SetReadOnly, SetForced, ReportPoison}
-use Rattle.model.specs.State.{Region, noRegion, Owner, Owner.host, Owner.table, Owner.lost, State, freed, awaiting}
+use Rattle.model.specs.State.{Region, Owner, Owner.host, Owner.table, Owner.lost, State, freed, awaiting}
 use Rattle.model.specs.Opening.{Plan, opened}
 use Rattle.model.specs.Memory.{receiptFor}
 use Rattle.step.specs.Questions.{isHost, heldAt, regionAt}
@@ -46,10 +45,9 @@ use Rattle.step.proofs.ProjectionFixed.{plans-set}
 use Rattle.step.proofs.ProjectionHost.{left-alike}
 use Rattle.rusttable.specs.Table.{Store}
 use Rattle.rusttable.specs.Functions.{«receipt_for», «durable_receipt», emptyRow, new}
-use Rattle.rusttable.specs.AsStep.{bufOf, backOf, completionAs, splitOf, liveOf, rowAs, tableOf, Asserts, isSetting}
+use Rattle.rusttable.specs.AsStep.{bufOf, backOf, completionAs, liveOf, rowAs, tableOf, Asserts, isSetting}
 use Rattle.rusttable.proofs.Lists.{map-same, map-alike}
-use Rattle.rusttable.proofs.Pieces.{Placed, its-place, long, placed, some-bytes}
-use Rattle.step.proofs.QuietRules.{piece-most}
+use Rattle.rusttable.proofs.Pieces.{its-place, long, placed}
 
 -- ---- at first
 

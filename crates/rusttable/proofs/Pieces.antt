@@ -1,58 +1,34 @@
 -- A live row of `step` that awaits a piece: what is known of its range, the Rust's operation there, and that its end is concluded alike.
-use mathlib.Core.Path.{_≡_, refl, ap, sym, _∙_}
-use mathlib.Core.Bool.{Bool, true, false, not, _&&_}
+use mathlib.Core.Path.{_≡_, refl}
+use mathlib.Core.Bool.{Bool, true, false}
 use mathlib.Core.List.{List}
-use mathlib.Core.Option.{Option, none, some, Option·map}
-use Prim.Native.Nat.{ℕ, _+_, _-_, _≤_, _<_, min}
-use native.Mathlib.Nat.{sub-zero}
+use mathlib.Core.Option.{some}
+use Prim.Native.Nat.{ℕ, _+_, _-_, _≤_, _<_}
 use native.Mathlib.Omega.{arith}
-use borrow.Author.Tests.{ltb-true, ltb-false, lt-ltb, le-ltb, eqb-true, eqb-false, ne-eqb}
-use lib.Dec.{ltb, eqb}
-use lib.ListN.{length, getD}
-use lib.Seq.{getD-set-same}
-use Rattle.layout.specs.Pick.{pick}
-use Rattle.layout.proofs.Tests.{not-both, true-or-false, and-left, and-right}
-use mathlib.Core.Logic.{_⊎_, inl, inr}
-use Rattle.regionmap.specs.Map.{Map, runLeft, place, pieceSize}
-use Rattle.regionmap.specs.Words.{offsetOf}
+use lib.ListN.{length}
 use Rattle.regionmap.proofs.Laws.{map-laws}
-use Rattle.iobuf.specs.Turn.{turned}
-use Rattle.iobuf.proofs.Laws.{turn-laws}
 use Rattle.platform.specs.declared.Answer.{Answer}
-use Rattle.platform.specs.declared.Answer.the-variants.{Count, Error as Failed, Refused, RefusedWith}
-use Rattle.completion.specs.declared.Reply.{Reply}
-use Rattle.completion.specs.Numbers.{number}
-use Rattle.model.specs.declared.Lengths.{Lengths}
 use Rattle.model.specs.declared.Kind.{Kind}
 use Rattle.model.specs.declared.Kind.the-variants.{Page, Read as Reads}
 use Rattle.model.specs.declared.Split.{Split}
 use Rattle.model.specs.declared.Awaits.{Awaits}
-use Rattle.model.specs.declared.Awaits.the-variants.{Nothing, Piece, Flush as AwaitsFlush}
+use Rattle.model.specs.declared.Awaits.the-variants.{Piece}
 use Rattle.model.specs.declared.Row.{Row}
-use Rattle.model.specs.declared.Call.the-variants.{Answer as Answers}
-use Rattle.model.specs.State.{Region, State}
+use Rattle.model.specs.State.{State}
 use Rattle.model.specs.Opening.{Plan}
 use Rattle.step.specs.Questions.{regionAt}
-use Rattle.step.specs.Rules.{firstOf, lastOf, pieceOf, pieceLength, Input.answered as fedAnswer, Fate, bufferAs, turnedBack, lastPiece, abovePiece, isRefusal, firstRefused, isWhole, goesOn, splitAfter, pieceAnswered, answerRules, rules}
-use Rattle.step.specs.Step.{rowAt, rowOf, names, bytesAt, planOf, writesIn, settled, fateOf, called, step}
+use Rattle.step.specs.Rules.{firstOf, lastOf, pieceOf, pieceLength, bufferAs, turnedBack, lastPiece}
+use Rattle.step.specs.Step.{rowAt, rowOf, names, bytesAt, planOf}
 use Rattle.step.specs.Sound.{SplitFits, rangeStart, rangeEnd, InTable, Sound}
-use Rattle.step.proofs.Picked.{by-pick}
 use Rattle.step.proofs.Named.{named-live, named-below}
 use Rattle.step.proofs.Buffers.{bytes-length}
-use Rattle.step.proofs.Fates.{Fitting, FateFits, fate-fits}
-use Rattle.step.proofs.QuietRules.{piece-most}
-use Rattle.rusttable.specs.Table.{Result.Ok, Result.Err, IoBuf, RawResult, Live, Table, Finish, Submitter}
+use Rattle.rusttable.specs.Table.{Live, Table}
 use Rattle.rusttable.specs.Table.{Row as RustRow}
-use Rattle.rusttable.specs.Functions.{given, isSome, mapOk, lenOf, returned, put, withSplit, withTable, okIs, inOrder, lastOne, nextOne, conclude, finish}
-use Rattle.rusttable.specs.Domain.{compared}
-use Rattle.rusttable.specs.AsStep.{bufOf, splitOf, liveOf, rowAs, tableOf, storeOf, submitterOf, pieceIn, inFlight, answerOf, finishAs}
-use Rattle.rusttable.proofs.Rows.{Has, live-is, has-put, has-live}
-use Rattle.rusttable.proofs.Handed.{bufAs, own-onward, onward-put}
+use Rattle.rusttable.specs.Functions.{withSplit, conclude}
+use Rattle.rusttable.specs.AsStep.{splitOf, liveOf, rowAs, tableOf, storeOf}
+use Rattle.rusttable.proofs.Rows.{Has, has-live}
+use Rattle.rusttable.proofs.Handed.{bufAs}
 use Rattle.rusttable.proofs.Concluding.{resultFor, isRefused, within, carried, operationOf, read-ends, write-ends}
-use Rattle.rusttable.proofs.Carried.{Ended, last-ended, carried-put, carried-settled}
-use Rattle.rusttable.proofs.Turning.{turn-whole, next-turned, order-back}
-use Rattle.rusttable.proofs.Within.{called-step, Found, found-under}
-
 
 -- the piece under way, of an operation of some kind and split, in a buffer of some capacity
 pub record Placed (g : Plan) (k : Kind) (sp : Split) (capacity : ℕ) : Type 0 where

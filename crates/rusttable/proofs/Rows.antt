@@ -1,18 +1,14 @@
 -- The Rust's row under a queue tag: where a table has an operation there, what `put` and `release` make of it; and the row that a live row of `step` is.
-use mathlib.Core.Path.{_≡_, refl, ap, sym, _∙_}
-use mathlib.Core.Bool.{Bool, true, false, _&&_}
-use mathlib.Core.List.{List, [], _∷_, _++_, map}
+use mathlib.Core.Path.{_≡_, refl, sym, _∙_}
+use mathlib.Core.Bool.{true}
+use mathlib.Core.List.{[], _∷_, _++_}
 use mathlib.Core.Option.{Option, none, some}
-use Prim.Native.Nat.{ℕ, _+_, _-_, _<_, _%_, _^_}
-use native.Mathlib.Omega.{arith}
+use Prim.Native.Nat.{ℕ, _+_, _-_, _%_, _^_}
 use lib.Dec.{eqb}
-use lib.ListN.{length, getElem?, set}
+use lib.ListN.{getElem?, set}
 use lib.Seq.{set-set}
 use Rattle.layout.specs.Pick.{pick}
-use Rattle.layout.proofs.Tests.{not-both, and-left, and-right}
-use Rattle.model.specs.declared.Awaits.{Awaits}
-use Rattle.model.specs.declared.Awaits.the-variants.{Nothing, Piece, Flush}
-use Rattle.model.specs.declared.Row.{Row as ModelRow}
+use Rattle.layout.proofs.Tests.{and-right}
 use Rattle.model.specs.State.{State, freed}
 use Rattle.step.specs.Step.{rowAt, rowOf, generationOf, isLive, names}
 use Rattle.step.specs.Sound.{Sound}

@@ -2,24 +2,15 @@
 -- first piece.
 use mathlib.Core.Path.{_≡_, refl, ap, sym, _∙_}
 use mathlib.Core.Bool.{Bool, true, false}
-use mathlib.Core.List.{List, [], _∷_}
+use mathlib.Core.List.{[]}
 use mathlib.Core.Option.{Option, none, some, Option·map}
-use Prim.Native.Nat.{ℕ, _+_, _-_, _<_, _^_, min}
+use Prim.Native.Nat.{ℕ, _<_, _^_, min}
 use native.Mathlib.Nat.{add-zero, sub-zero}
 use native.Mathlib.Omega.{arith}
-use lib.Dec.{lit<}
-use lib.ListN.{length, getD, set}
+use lib.ListN.{length}
 use lib.Seq.{getD-set-same}
-use Rattle.regionmap.specs.declared.Position.{Position}
 use Rattle.regionmap.specs.Map.{runLeft, place, pieceSize}
-use Rattle.regionmap.specs.Words.{offsetOf}
-use Rattle.domain.specs.declared.Op.{Op}
-use Rattle.domain.specs.declared.OsError.the-variants.{None as noError, Raw}
-use Rattle.platform.specs.declared.Answer.the-variants.{Refused as refusedBare, RefusedWith}
-use Rattle.completion.specs.declared.Range.{Range}
 use Rattle.completion.specs.declared.Reply.{Reply}
-use Rattle.completion.specs.declared.Reply.the-variants.{Piece as piece, No as turnedAway, Rejected}
-use Rattle.completion.specs.declared.Refusal.{Refusal}
 use Rattle.model.specs.declared.Lengths.{Lengths}
 use Rattle.model.specs.declared.Kind.{Kind}
 use Rattle.model.specs.declared.Split.{Split}
@@ -27,22 +18,22 @@ use Rattle.model.specs.declared.Awaits.the-variants.{Piece as AwaitsPiece}
 use Rattle.model.specs.declared.Row.{Row}
 use Rattle.model.specs.declared.Request.{Request}
 use Rattle.model.specs.declared.Asked.{Asked}
-use Rattle.model.specs.declared.Asked.the-variants.{Yes, No}
+use Rattle.model.specs.declared.Asked.the-variants.{Yes}
 use Rattle.model.specs.declared.Call.the-variants.{Answer as Answers}
 use Rattle.model.specs.State.{Region, Owner.host, State, freed}
 use Rattle.step.specs.Questions.{regionAt}
 use Rattle.step.specs.Rules.{opOf, firstOf, rangeOf, pieceOf, pieceLength, errorOf, bufferAs, Input.answered as fedAnswer}
-use Rattle.step.specs.Step.{keptBy, poisonWith, freeing, begun, queueTag, topOf, rowAt, rowOf, names, durableAs, claimedBy, accepted, bytesAt, planOf, verdictOf, submitted, settled, fateOf, called, step}
+use Rattle.step.specs.Step.{keptBy, poisonWith, freeing, begun, queueTag, topOf, rowAt, rowOf, claimedBy, accepted, bytesAt, planOf, verdictOf, submitted, settled, fateOf, called, step}
 use Rattle.step.specs.Sound.{Sound}
 use Rattle.step.proofs.Answers.{Passed}
 use Rattle.step.proofs.Taken.{top-row}
 use Rattle.step.proofs.AloneTags.{row-of-tag}
-use Rattle.rusttable.specs.Table.{Result.Ok, Result.Err, IoBuf, RawError, Error, Error.NotWritten, Error.Io, NotWrittenCause.QueueFull, Rejected as Rejection, Table, Store, Submitter, Req, Submitted, Submitted.Taken, Submitted.Refused, Issued, Issued.Submit, Issued.Reject}
-use Rattle.rusttable.specs.Functions.{indexIn, withTable, returned, whole, bufIn, abort, Told, submit, toldAs, issuedWith}
+use Rattle.rusttable.specs.Table.{IoBuf, RawError, Error, Req, Submitted.Taken, Submitted.Refused, Issued.Reject}
+use Rattle.rusttable.specs.Functions.{indexIn, withTable, returned, whole, bufIn, abort, submit, toldAs, issuedWith}
 use Rattle.rusttable.specs.Domain.{compared}
-use Rattle.rusttable.specs.AsStep.{bufOf, backOf, contextOf, splitOf, tableOf, storeOf, submitterOf, refusalOf, refusedError, reqAs, issuedAs, Submits}
-use Rattle.rusttable.proofs.Issuing.{piece-alike, same-bytes}
-use Rattle.rusttable.proofs.Aborting.{aborted, store-kept, whole-back, rejects-with}
+use Rattle.rusttable.specs.AsStep.{bufOf, backOf, splitOf, tableOf, storeOf, submitterOf, refusalOf, refusedError, reqAs, issuedAs, Submits}
+use Rattle.rusttable.proofs.Issuing.{piece-alike}
+use Rattle.rusttable.proofs.Aborting.{aborted, whole-back, rejects-with}
 use Rattle.rusttable.proofs.Within.{called-step, Found, found-under}
 
 -- what becomes of a submission whose questions are answered

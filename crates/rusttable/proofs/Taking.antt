@@ -1,21 +1,19 @@
 -- `Completions::next` is `step`'s taking: the oldest completion, with its buffer and the bytes there.
-use mathlib.Core.Path.{_≡_, refl, ap, sym, _∙_}
+use mathlib.Core.Path.{_≡_, refl, ap, sym}
 use mathlib.Core.Bool.{true}
 use mathlib.Core.List.{List, [], _∷_, map}
-use mathlib.Core.Option.{Option, none, some}
-use Prim.Native.Nat.{ℕ, _-_}
+use mathlib.Core.Option.{some}
+use Prim.Native.Nat.{ℕ}
 use Rattle.completion.specs.declared.Buffer.{Buffer}
 use Rattle.completion.specs.declared.Buffer.the-variants.{Back, Lost}
 use Rattle.completion.specs.declared.Completion.{Completion}
-use Rattle.completion.specs.declared.Reply.{Reply}
 use Rattle.model.specs.declared.Lengths.{Lengths}
 use Rattle.model.specs.declared.Row.{Row}
 use Rattle.model.specs.declared.Call.the-variants.{Take}
 use Rattle.model.specs.State.{State}
-use Rattle.step.specs.Step.{bytesAt, givenBack, taken, called, step}
-use Rattle.rusttable.specs.Table.{Table}
+use Rattle.step.specs.Step.{bytesAt, taken, called, step}
 use Rattle.rusttable.specs.Table.{Completion as RustCompletion}
-use Rattle.rusttable.specs.Functions.{Popped, popFront, next}
+use Rattle.rusttable.specs.Functions.{popFront, next}
 use Rattle.rusttable.specs.Domain.{compared}
 use Rattle.rusttable.specs.AsStep.{bufOf, backOf, completionAs, rowAs, tableOf, storeOf, frontAs, Takes}
 use Rattle.rusttable.proofs.Lists.{map-same}

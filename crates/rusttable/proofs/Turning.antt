@@ -1,14 +1,12 @@
 -- The buffer's bytes: the Rust's `set_len` and `rotate_left` of the slice are the model's turn of the first bytes.
-use mathlib.Core.Path.{_≡_, refl, ap, sym, _∙_}
+use mathlib.Core.Path.{_≡_, refl, ap, _∙_}
 use mathlib.Core.Bool.{Bool, true, false}
-use mathlib.Core.List.{List, [], _++_, append-assoc}
-use mathlib.Core.Option.{Option, none, some, Option·map}
-use Prim.Native.Nat.{ℕ, _+_, _-_, _≤_}
-use native.Mathlib.Nat.{sub-zero}
+use mathlib.Core.List.{List, append-assoc}
+use mathlib.Core.Option.{some, Option·map}
+use Prim.Native.Nat.{ℕ, _-_, _≤_}
 use native.Mathlib.Omega.{arith}
 use borrow.Author.Tests.{le-leb}
-use lib.Dec.{leb}
-use lib.ListN.{length, take, drop, length-take, drop-of-length-le, take-append-drop}
+use lib.ListN.{length, take, length-take, drop-of-length-le, take-append-drop}
 use lib.Seq.{take-all}
 use Rattle.layout.specs.Pick.{pick}
 use Rattle.iobuf.specs.Turn.{turned}

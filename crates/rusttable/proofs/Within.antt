@@ -1,11 +1,9 @@
 -- What a call in the domain is known by: its lengths are the opening's, and an answer or a flush result names a live row.
 use mathlib.Core.Path.{_≡_, refl}
-use mathlib.Core.Bool.{Bool, true, false}
+use mathlib.Core.Bool.{true}
 use Prim.Native.Nat.{ℕ}
 use Rattle.layout.proofs.Tests.{not-both}
 use Rattle.completion.specs.declared.Reply.{Reply}
-use Rattle.completion.specs.declared.Reply.the-variants.{No as turnedAway}
-use Rattle.completion.specs.declared.Refusal.the-variants.{Unfit, UnknownTag}
 use Rattle.completion.specs.Numbers.{number}
 use Rattle.model.specs.declared.Lengths.{Lengths}
 use Rattle.model.specs.declared.Call.{Call}

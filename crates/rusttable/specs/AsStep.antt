@@ -31,7 +31,7 @@ use Rattle.completion.specs.declared.Reply.the-variants.{Piece as piece, No as 
 use Rattle.model.specs.declared.Opening.{Opening}
 use Rattle.model.specs.declared.Lengths.{Lengths}
 use Rattle.model.specs.declared.Kind.{Kind}
-use Rattle.model.specs.declared.Kind.the-variants.{Page, Read as Reads}
+use Rattle.model.specs.declared.Kind.the-variants.{Page}
 use Rattle.model.specs.declared.Split.{Split}
 use Rattle.model.specs.declared.Awaits.{Awaits}
 use Rattle.model.specs.declared.Awaits.the-variants.{Nothing, Piece, Flush as AwaitsFlush}
@@ -47,9 +47,9 @@ use Rattle.step.specs.Step.{rowAt, rowOf, names, bytesAt, planOf, writesIn, ste
 use Rattle.step.specs.Sound.{Sound}
 use Rattle.step.specs.Laws.{leave}
 use Rattle.step.specs.Lists.{HostMay}
-use Rattle.rusttable.specs.Table.{Result, Result.Ok, Result.Err, IoBuf, RawError, RawResult, ByteRange, ErrorContext, Error, Flushed, Written, Held, Live, Table, Finish, Store, Submitter, RegionPos, Req, Submitted, Issued}
+use Rattle.rusttable.specs.Table.{Result.Ok, Result.Err, IoBuf, RawError, RawResult, ErrorContext, Error, Flushed, Live, Table, Finish, Store, Submitter, RegionPos, Req, Issued}
 use Rattle.rusttable.specs.Table.{Outcome as RustOutcome, Completion as RustCompletion, Row as RustRow}
-use Rattle.rusttable.specs.Table.{NotWrittenCause, NotWrittenCause.ForeignPosition, NotWrittenCause.ForeignBuffer, NotWrittenCause.QueueFull, NotWrittenCause.StaleGeneration, NotWrittenCause.NotReady, NotWrittenCause.ReadOnly, NotWrittenCause.Empty, NotWrittenCause.Misaligned, NotWrittenCause.OutOfBounds, NotWrittenCause.Interrupted}
+use Rattle.rusttable.specs.Table.{NotWrittenCause.ForeignPosition, NotWrittenCause.ForeignBuffer, NotWrittenCause.QueueFull, NotWrittenCause.StaleGeneration, NotWrittenCause.NotReady, NotWrittenCause.ReadOnly, NotWrittenCause.Empty, NotWrittenCause.Misaligned, NotWrittenCause.OutOfBounds, NotWrittenCause.Interrupted}
 use Rattle.rusttable.specs.Table.{Error.NotWritten, Error.Poisoned, Error.Io, Error.DurabilityUnknown, Error.Corruption, Done.Wrote, Done.Read, Finish.Finished, Finish.Flush, Finish.Next, Req.WriteAt, Req.ReadAt, Submitted.Taken, Submitted.Refused as QueueRefuses, Issued.Submit, Issued.Reject}
 use Rattle.rusttable.specs.Functions.{«receipt_for», «durable_receipt», indexIn, returned, finish as rustFinish, «refused_next», abort as rustAbort, flushed as rustFlushed, next, Popped, write as rustWrite, «read_page», new as rustNew}
 use Rattle.rusttable.specs.Domain.{InDomain}

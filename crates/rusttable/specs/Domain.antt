@@ -7,7 +7,7 @@ use mathlib.Core.Option.{Option, none, some}
 use Prim.Native.Nat.{ℕ, _+_, _-_}
 use lib.Dec.{ltb, eqb}
 use Rattle.layout.specs.Pick.{pick}
-use Rattle.regionmap.specs.Map.{Run, Map, firstRun}
+use Rattle.regionmap.specs.Map.{Run, firstRun}
 use Rattle.completion.specs.declared.Reply.{Reply}
 use Rattle.completion.specs.declared.Reply.the-variants.{Piece as piece, No as turnedAway, Rejected, Done, Flush as flushAsked, Took, None as noneReady, Ok, Writes, Mark}
 use Rattle.completion.specs.Numbers.{number}

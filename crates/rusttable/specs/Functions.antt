@@ -11,13 +11,12 @@ use lib.ListN.{length, getD, getElem?, set, take, drop, replicate}
 use lib.Dec.{leb, ltb, eqb}
 use Rattle.layout.specs.Pick.{pick}
 use Rattle.regionmap.specs.declared.Position.{Position}
-use Rattle.regionmap.specs.Map.{Map, runLeft, place}
+use Rattle.regionmap.specs.Map.{runLeft, place}
 use Rattle.regionmap.specs.Words.{positionOf}
 use Rattle.domain.specs.declared.Op.{Op}
 use Rattle.domain.specs.declared.Op.the-variants.{Read as readOp, Write as writeOp}
 use Rattle.domain.specs.declared.OsError.{OsError}
 use Rattle.domain.specs.declared.OsError.the-variants.{None as noError, Raw}
-use Rattle.domain.specs.declared.FirstCause.{FirstCause}
 use Rattle.domain.specs.declared.Poisoned.{Poisoned as Poison}
 use Rattle.domain.specs.declared.Poisoned.the-variants.{Never, First}
 use Rattle.domain.specs.Domain.{firstKept}
@@ -30,7 +29,7 @@ use Rattle.model.specs.declared.Gate.{Gate}
 use Rattle.model.specs.declared.Gate.the-variants.{Open, Recycled, Released}
 use Rattle.model.specs.State.{Region, noRegion, upFrom}
 use Rattle.model.specs.Memory.{receiptFor}
-use Rattle.rusttable.specs.Table.{Result, Result.Ok, Result.Err, IoBuf, RawError, RawResult, ByteRange, ErrorContext, Error, Flushed, Written, Done, Outcome, Completion, Rejected, Held, Live, Row, Table, Finish, Store, Submitter, RegionPos, Req, Submitted, Issued}
+use Rattle.rusttable.specs.Table.{Result, Result.Ok, Result.Err, IoBuf, RawError, RawResult, ErrorContext, Error, Flushed, Written, Done, Outcome, Completion, Held, Live, Row, Table, Finish, Store, Submitter, RegionPos, Req, Submitted, Issued}
 use Rattle.rusttable.specs.Table.{NotWrittenCause, NotWrittenCause.ForeignPosition, NotWrittenCause.ForeignBuffer, NotWrittenCause.QueueFull, NotWrittenCause.StaleGeneration, NotWrittenCause.NotReady, NotWrittenCause.ReadOnly, NotWrittenCause.Empty, NotWrittenCause.Misaligned, NotWrittenCause.OutOfBounds, NotWrittenCause.Interrupted}
 use Rattle.rusttable.specs.Table.{Error.NotWritten, Error.Poisoned, Error.Io, Error.DurabilityUnknown, Error.Corruption, Done.Wrote, Done.WholeStore, Done.Read, Finish.Finished, Finish.Flush, Finish.Next, Req.WriteAt, Req.ReadAt, Submitted.Taken, Submitted.Refused, Issued.Submit, Issued.Reject}
 
