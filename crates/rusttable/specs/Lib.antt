@@ -1,0 +1,4 @@
+pub mod Table
+pub mod Functions
+pub mod Domain
+pub mod AsStep
