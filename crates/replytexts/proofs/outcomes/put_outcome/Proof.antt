@@ -1,5 +1,4 @@
 -- `replytexts::put_outcome` meets its contract: each arm knows which it is, and there the definition computes.
-use mathlib.Core.Path.{_∙_}
 use native.Mathlib.Omega.{arith}
 use Rattle.replytexts.specs.Replay.{outcomeText}
 use borrow.Author.Needs.{needs}
@@ -81,7 +80,7 @@ same-length c = search needs
 returns : tie.Need-returns
 unfolding outcomeText
 returns c =
-    let put = c .before .before .put-ticketed .ensures in (omega arith, (put .1 .0, put .1 .1 ∙ rw (c .before .before .before .before .before .before .outcome .given .1)))
+    let put = c .before .before .put-ticketed .ensures in (omega arith, (put .1 .0, rw (c .before .before .before .before .before .before .outcome .given .1) (put .1 .1)))
 
 same-length-2 : tie.Need-same-length-2
 same-length-2 c = search needs
@@ -89,7 +88,7 @@ same-length-2 c = search needs
 returns-2 : tie.Need-returns-2
 unfolding outcomeText
 returns-2 c =
-    let put = c .before .before .put-durable .ensures in (omega arith, (put .1 .0, put .1 .1 ∙ rw (c .before .before .before .before .before .outcome2 .given .1)))
+    let put = c .before .before .put-durable .ensures in (omega arith, (put .1 .0, rw (c .before .before .before .before .before .outcome2 .given .1) (put .1 .1)))
 
 same-length-3 : tie.Need-same-length-3
 same-length-3 c = search needs
@@ -97,7 +96,7 @@ same-length-3 c = search needs
 returns-3 : tie.Need-returns-3
 unfolding outcomeText
 returns-3 c =
-    let put = c .before .before .put-read .ensures in (omega arith, (put .1 .0, put .1 .1 ∙ rw (c .before .before .before .before .before .outcome3 .given .1)))
+    let put = c .before .before .put-read .ensures in (omega arith, (put .1 .0, rw (c .before .before .before .before .before .outcome3 .given .1) (put .1 .1)))
 
 same-length-4 : tie.Need-same-length-4
 same-length-4 c = search needs
@@ -105,7 +104,7 @@ same-length-4 c = search needs
 returns-4 : tie.Need-returns-4
 unfolding outcomeText
 returns-4 c =
-    let put = c .before .before .put-unknown .ensures in (omega arith, (put .1 .0, put .1 .1 ∙ rw (c .before .before .before .before .before .outcome4 .given .1)))
+    let put = c .before .before .put-unknown .ensures in (omega arith, (put .1 .0, rw (c .before .before .before .before .before .outcome4 .given .1) (put .1 .1)))
 
 same-length-5 : tie.Need-same-length-5
 same-length-5 c = search needs
@@ -113,7 +112,7 @@ same-length-5 c = search needs
 returns-5 : tie.Need-returns-5
 unfolding outcomeText
 returns-5 c =
-    let put = c .before .before .put-range .ensures in (omega arith, (put .1 .0, put .1 .1 ∙ rw (c .before .before .before .before .before .before .outcome5 .given .1)))
+    let put = c .before .before .put-range .ensures in (omega arith, (put .1 .0, rw (c .before .before .before .before .before .before .outcome5 .given .1) (put .1 .1)))
 
 same-length-6 : tie.Need-same-length-6
 same-length-6 c = search needs
@@ -121,7 +120,7 @@ same-length-6 c = search needs
 returns-6 : tie.Need-returns-6
 unfolding outcomeText
 returns-6 c =
-    let put = c .before .before .put-range2 .ensures in (omega arith, (put .1 .0, put .1 .1 ∙ rw (c .before .before .before .before .before .before .outcome6 .given .1)))
+    let put = c .before .before .put-range2 .ensures in (omega arith, (put .1 .0, rw (c .before .before .before .before .before .before .outcome6 .given .1) (put .1 .1)))
 
 same-length-7 : tie.Need-same-length-7
 same-length-7 c = search needs
@@ -129,7 +128,7 @@ same-length-7 c = search needs
 returns-7 : tie.Need-returns-7
 unfolding outcomeText
 returns-7 c =
-    let put = c .before .before .put-raw .ensures in (omega arith, (put .1 .0, put .1 .1 ∙ rw (c .before .before .before .before .before .before .outcome7 .given .1)))
+    let put = c .before .before .put-raw .ensures in (omega arith, (put .1 .0, rw (c .before .before .before .before .before .before .outcome7 .given .1) (put .1 .1)))
 
 same-length-8 : tie.Need-same-length-8
 same-length-8 c = search needs
@@ -137,7 +136,7 @@ same-length-8 c = search needs
 returns-8 : tie.Need-returns-8
 unfolding outcomeText
 returns-8 c =
-    let put = c .before .before .put-range3 .ensures in (omega arith, (put .1 .0, put .1 .1 ∙ rw (c .before .before .before .before .before .before .outcome8 .given .1)))
+    let put = c .before .before .put-range3 .ensures in (omega arith, (put .1 .0, rw (c .before .before .before .before .before .before .outcome8 .given .1) (put .1 .1)))
 
 same-length-9 : tie.Need-same-length-9
 same-length-9 c = search needs
@@ -145,7 +144,7 @@ same-length-9 c = search needs
 returns-9 : tie.Need-returns-9
 unfolding outcomeText
 returns-9 c =
-    let put = c .before .before .put-poisoned .ensures in (omega arith, (put .1 .0, put .1 .1 ∙ rw (c .before .before .before .before .before .outcome9 .given .1)))
+    let put = c .before .before .put-poisoned .ensures in (omega arith, (put .1 .0, rw (c .before .before .before .before .before .outcome9 .given .1) (put .1 .1)))
 
 pub put-outcome-spec : {M : Type 1} → statement M
 put-outcome-spec =

@@ -1,5 +1,4 @@
 -- `texts::put_short` meets its contract: each arm knows which it is, and there the definition computes.
-use mathlib.Core.Path.{_∙_}
 use native.Mathlib.Omega.{arith}
 use Rattle.texts.specs.Short.{shortOutcome}
 use borrow.Author.Needs.{needs}
@@ -84,7 +83,7 @@ same-length c = search needs
 returns : tie.Need-returns
 unfolding shortOutcome
 returns c =
-    let put = c .before .before .put-need .ensures in (omega arith, (put .1 .0, put .1 .1 ∙ rw (c .before .before .before .before .before .before .outcome .given .1)))
+    let put = c .before .before .put-need .ensures in (omega arith, (put .1 .0, rw (c .before .before .before .before .before .before .outcome .given .1) (put .1 .1)))
 
 same-length-2 : tie.Need-same-length-2
 same-length-2 c = search needs
@@ -92,7 +91,7 @@ same-length-2 c = search needs
 returns-2 : tie.Need-returns-2
 unfolding shortOutcome
 returns-2 c =
-    let put = c .before .before .put-need2 .ensures in (omega arith, (put .1 .0, put .1 .1 ∙ rw (c .before .before .before .before .before .before .outcome2 .given .1)))
+    let put = c .before .before .put-need2 .ensures in (omega arith, (put .1 .0, rw (c .before .before .before .before .before .before .outcome2 .given .1) (put .1 .1)))
 
 same-length-3 : tie.Need-same-length-3
 same-length-3 c = search needs
@@ -100,7 +99,7 @@ same-length-3 c = search needs
 returns-3 : tie.Need-returns-3
 unfolding shortOutcome
 returns-3 c =
-    let put = c .before .before .put-read .ensures in (omega arith, (put .1 .0, put .1 .1 ∙ rw (c .before .before .before .before .before .outcome3 .given .1)))
+    let put = c .before .before .put-read .ensures in (omega arith, (put .1 .0, rw (c .before .before .before .before .before .outcome3 .given .1) (put .1 .1)))
 
 same-length-4 : tie.Need-same-length-4
 same-length-4 c = search needs
@@ -108,7 +107,7 @@ same-length-4 c = search needs
 returns-4 : tie.Need-returns-4
 unfolding shortOutcome
 returns-4 c =
-    let put = c .before .before .put-unknown .ensures in (omega arith, (put .1 .0, put .1 .1 ∙ rw (c .before .before .before .before .before .outcome4 .given .1)))
+    let put = c .before .before .put-unknown .ensures in (omega arith, (put .1 .0, rw (c .before .before .before .before .before .outcome4 .given .1) (put .1 .1)))
 
 same-length-5 : tie.Need-same-length-5
 same-length-5 c = search needs
@@ -116,7 +115,7 @@ same-length-5 c = search needs
 returns-5 : tie.Need-returns-5
 unfolding shortOutcome
 returns-5 c =
-    let put = c .before .before .put-range .ensures in (omega arith, (put .1 .0, put .1 .1 ∙ rw (c .before .before .before .before .before .before .outcome5 .given .1)))
+    let put = c .before .before .put-range .ensures in (omega arith, (put .1 .0, rw (c .before .before .before .before .before .before .outcome5 .given .1) (put .1 .1)))
 
 same-length-6 : tie.Need-same-length-6
 same-length-6 c = search needs
@@ -124,7 +123,7 @@ same-length-6 c = search needs
 returns-6 : tie.Need-returns-6
 unfolding shortOutcome
 returns-6 c =
-    let put = c .before .before .put-range2 .ensures in (omega arith, (put .1 .0, put .1 .1 ∙ rw (c .before .before .before .before .before .before .outcome6 .given .1)))
+    let put = c .before .before .put-range2 .ensures in (omega arith, (put .1 .0, rw (c .before .before .before .before .before .before .outcome6 .given .1) (put .1 .1)))
 
 same-length-7 : tie.Need-same-length-7
 same-length-7 c = search needs
@@ -132,7 +131,7 @@ same-length-7 c = search needs
 returns-7 : tie.Need-returns-7
 unfolding shortOutcome
 returns-7 c =
-    let put = c .before .before .put-raw .ensures in (omega arith, (put .1 .0, put .1 .1 ∙ rw (c .before .before .before .before .before .before .outcome7 .given .1)))
+    let put = c .before .before .put-raw .ensures in (omega arith, (put .1 .0, rw (c .before .before .before .before .before .before .outcome7 .given .1) (put .1 .1)))
 
 same-length-8 : tie.Need-same-length-8
 same-length-8 c = search needs
@@ -140,7 +139,7 @@ same-length-8 c = search needs
 returns-8 : tie.Need-returns-8
 unfolding shortOutcome
 returns-8 c =
-    let put = c .before .before .put-range3 .ensures in (omega arith, (put .1 .0, put .1 .1 ∙ rw (c .before .before .before .before .before .before .outcome8 .given .1)))
+    let put = c .before .before .put-range3 .ensures in (omega arith, (put .1 .0, rw (c .before .before .before .before .before .before .outcome8 .given .1) (put .1 .1)))
 
 same-length-9 : tie.Need-same-length-9
 same-length-9 c = search needs
@@ -148,7 +147,7 @@ same-length-9 c = search needs
 returns-9 : tie.Need-returns-9
 unfolding shortOutcome
 returns-9 c =
-    let put = c .before .before .put-poisoned .ensures in (omega arith, (put .1 .0, put .1 .1 ∙ rw (c .before .before .before .before .before .outcome9 .given .1)))
+    let put = c .before .before .put-poisoned .ensures in (omega arith, (put .1 .0, rw (c .before .before .before .before .before .outcome9 .given .1) (put .1 .1)))
 
 pub put-short-spec : {M : Type 1} → statement M
 put-short-spec =

@@ -1,0 +1,4 @@
+-- What the proofs of this crate share.
+pub mod Laws
+pub mod Words
+pub mod Whole

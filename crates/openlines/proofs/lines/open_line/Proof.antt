@@ -1,0 +1,58 @@
+-- `openlines::open_line` meets its contract: each way out knows which forms the line has not, and the one that it has.
+use mathlib.Core.Path.{sym, _∙_}
+use borrow.Author.Tests.{eq-eqb, ne-eqb}
+use Rattle.layout.specs.Pick.{pick}
+use Rattle.openlines.specs.Openings.{openLineIn}
+use borrow.Author.Needs.{needs}
+use Rattle.openlines.proofs.lines.open_line.Statement.{statement}
+use Rattle.openlines.proofs.lines.open_line.Tie as tie
+
+first-byte-requires : tie.Need-first-byte-requires
+first-byte-requires c κs = search needs
+
+returns : tie.Need-returns
+unfolding openLineIn pick
+returns c = rw (eq-eqb _ 35 (sym (c .before .first-byte .ensures) ∙ c .if1 .taken))
+
+is-open-requires : tie.Need-is-open-requires
+is-open-requires c κs = search needs
+
+opening-of-requires : tie.Need-opening-of-requires
+opening-of-requires c κs = search needs
+
+returns-2 : tie.Need-returns-2
+unfolding openLineIn pick
+returns-2 c = rw (ne-eqb _ 35 (λ e. c .before .before .before .if1 .left (c .before .before .before .before .first-byte .ensures ∙ e)), sym (c .before .before .is-open .ensures) ∙ c .before .if2 .taken, c .opening-of .ensures)
+
+is-region-requires : tie.Need-is-region-requires
+is-region-requires c κs = search needs
+
+returns-3 : tie.Need-returns-3
+unfolding openLineIn pick
+returns-3 c = rw (ne-eqb _ 35 (λ e. c .before .before .before .before .if1 .left (c .before .before .before .before .before .first-byte .ensures ∙ e)), sym (c .before .before .before .is-open .ensures) ∙ c .before .before .if2 .left, sym (c .before .is-region .ensures) ∙ c .if3 .taken)
+
+is-start-requires : tie.Need-is-start-requires
+is-start-requires c κs = search needs
+
+returns-4 : tie.Need-returns-4
+unfolding openLineIn pick
+returns-4 c = rw (ne-eqb _ 35 (λ e. c .before .before .before .before .before .before .if1 .left (c .before .before .before .before .before .before .before .first-byte .ensures ∙ e)), sym (c .before .before .before .before .before .is-open .ensures) ∙ c .before .before .before .before .if2 .left, sym (c .before .before .before .is-region .ensures) ∙ c .before .before .if3 .left, sym (c .before .is-start .ensures) ∙ c .if4 .taken)
+
+returns-5 : tie.Need-returns-5
+unfolding openLineIn pick
+returns-5 c = rw (ne-eqb _ 35 (λ e. c .before .before .before .before .before .before .if1 .left (c .before .before .before .before .before .before .before .first-byte .ensures ∙ e)), sym (c .before .before .before .before .before .is-open .ensures) ∙ c .before .before .before .before .if2 .left, sym (c .before .before .before .is-region .ensures) ∙ c .before .before .if3 .left, sym (c .before .is-start .ensures) ∙ c .if4 .left)
+
+pub open-line-spec : {M : Type 1} → statement M
+open-line-spec =
+    tie.close
+    (tie.spec
+    first-byte-requires
+    returns
+    is-open-requires
+    opening-of-requires
+    returns-2
+    is-region-requires
+    returns-3
+    is-start-requires
+    returns-4
+    returns-5)

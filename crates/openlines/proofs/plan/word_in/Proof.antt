@@ -1,0 +1,44 @@
+-- `openlines::word_in` meets its contract: each way out knows which word it is.
+use mathlib.Core.Path.{_∙_}
+use borrow.Author.Tests.{lt-ltb, le-ltb, ne-eqb, eq-eqb}
+use Rattle.layout.specs.Pick.{pick}
+use Rattle.openlines.specs.Openings.{regionWordIn}
+use borrow.Author.Needs.{needs}
+use Rattle.openlines.proofs.plan.word_in.Statement.{statement}
+use Rattle.openlines.proofs.plan.word_in.Tie as tie
+
+add-value-in : tie.Need-add-value-in
+add-value-in c = search needs
+
+value-in-requires : tie.Need-value-in-requires
+value-in-requires c κs = search needs
+
+returns : tie.Need-returns
+unfolding regionWordIn pick
+returns c = c .value-in .ensures ∙ rw (lt-ltb _ 5 (c .before .if1 .taken))
+
+runs-in-requires : tie.Need-runs-in-requires
+runs-in-requires c κs = search needs
+
+returns-2 : tie.Need-returns-2
+unfolding regionWordIn pick
+returns-2 c = c .runs-in .ensures ∙ rw (le-ltb _ 5 (c .before .before .if1 .left), eq-eqb _ 5 (c .before .if2 .taken))
+
+value-in-requires-2 : tie.Need-value-in-requires-2
+value-in-requires-2 c κs = search needs
+
+returns-3 : tie.Need-returns-3
+unfolding regionWordIn pick
+returns-3 c = c .value-in2 .ensures ∙ rw (le-ltb _ 5 (c .before .before .if1 .left), ne-eqb _ 5 (c .before .if2 .left))
+
+pub word-in-spec : {M : Type 1} → statement M
+word-in-spec =
+    tie.close
+    (tie.spec
+    add-value-in
+    value-in-requires
+    returns
+    runs-in-requires
+    returns-2
+    value-in-requires-2
+    returns-3)
