@@ -91,11 +91,6 @@ unwritten x t buf live outcome e =
     by-pick (live .durable && flushes (x .store) live) (λ (z : Submitter × Finish). z ≡ handBack x t buf outcome) (λ d. rw e refl)
     (λ d. by-pick (live .durable) (λ (z : Submitter × Finish). z ≡ handBack x t buf outcome) (λ d. rw e refl) (λ d. refl))
 
--- one that is no read keeps its buffer's length
-handed : (x : Submitter) (t : ℕ) (buf : Option IoBuf) (outcome : Outcome) → readLen outcome ≡ none → handBack x t buf outcome ≡ (withTable x (release (x .table) t buf outcome), Finished)
-unfolding handBack shortened given
-handed x t buf outcome e = rw e refl
-
 no-write : (z : Result ℕ Error) → written (mapOk Read z) ≡ none
 unfolding written mapOk doneWrite
 no-write (Ok m) = refl

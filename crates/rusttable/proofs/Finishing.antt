@@ -6,7 +6,7 @@ use mathlib.Core.Option.{Option, none, some}
 use Prim.Native.Nat.{ℕ, _+_, _-_, _≤_, _<_, min}
 use native.Mathlib.Decide.{ℕ-discrete}
 use native.Mathlib.Omega.{arith}
-use borrow.Author.Tests.{ltb-true, ltb-false, lt-ltb, le-ltb, eq-eqb, ne-eqb}
+use borrow.Author.Tests.{ltb-true, ltb-false, lt-ltb, le-ltb}
 use lib.Dec.{ltb, eqb}
 use lib.ListN.{length}
 use lib.Seq.{getD-set-same}
@@ -46,7 +46,7 @@ use Rattle.rusttable.proofs.Handed.{bufAs, own-onward, onward-put}
 use Rattle.rusttable.proofs.Concluding.{resultFor, isRefused, within, carried, operationOf}
 use Rattle.rusttable.proofs.Carried.{last-ended, carried-put, carried-settled}
 use Rattle.rusttable.proofs.Turning.{turn-whole, next-turned, order-back}
-use Rattle.rusttable.proofs.Pieces.{Placed, long, placed, its-live, there, has, some-bytes, Told, kind-ends}
+use Rattle.rusttable.proofs.Pieces.{split-none, split-some, Placed, long, placed, its-live, there, has, some-bytes, Told, kind-ends}
 use Rattle.rusttable.proofs.Within.{called-step, found-under}
 
 and-false : (a : Bool) → (a && false) ≡ false
@@ -148,8 +148,7 @@ module _ (s : State) (i : Sound s) (n t : ℕ) (found : names (rowAt s (rowOf t)
     at-first = let most = piece-most g k sp in let left = facts .left in omega arith
 
     no-split : splitOf g k sp ≡ none
-    unfolding splitOf pick
-    no-split = rw (eq-eqb piece (sp .total) one) refl
+    no-split = split-none g k sp one
 
     has-whole : Has (tableOf s) t (rowAs s row) (operationOf row k)
     unfolding withSplit
@@ -191,8 +190,8 @@ module _ (s : State) (i : Sound s) (n t : ℕ) (found : names (rowAt s (rowOf t)
     last-ends stops fits =
         let T = put (tableOf s) t (operationOf row k) in
         finish-several ∙ rw (same-test, stops)
-        (rw (order-back (row .buffer) piece bytes sp (facts .room) back, whole-result sp result)
-        (kind-ends s n row T t _ sp bytes (answerOf result) back k (has-put (tableOf s) t (rowAs s row) live (has s i t found k sp awaits) (operationOf row k)) facts (told-result k result) fits
+        ((λ j. conclude (record { store = storeOf s n; table = T }) t (order-back (row .buffer) piece bytes sp (facts .room) back j) (whole-result sp result j))
+        ∙ (kind-ends s n row T t _ sp bytes (answerOf result) back k (has-put (tableOf s) t (rowAs s row) live (has s i t found k sp awaits) (operationOf row k)) facts (told-result k result) fits
         ∙ carried-put s n row (tableOf s) t (rowAs s row) live (operationOf row k) (has s i t found k sp awaits) refl k last (last-ended (s .settings) g (regionAt s (row .handle) .forced) (s .poison) row sp bytes (answerOf result) back n k)))
 
     -- the next of them
@@ -221,11 +220,11 @@ module _ (s : State) (i : Sound s) (n t : ℕ) (found : names (rowAt s (rowOf t)
 
       -- its piece is not the whole operation
       still-several : splitOf g k later ≡ some later
-      unfolding splitOf pick splitAfter
+      unfolding splitAfter
       still-several =
           let most = piece-most g k later in
           let some-done = some-bytes s i t found k sp awaits in
-          rw (ne-eqb (pieceLength g k later) (sp .total) (λ e. omega (arith, most, some-done, more))) refl
+          split-some g k later (λ e. omega (arith, most, some-done, more))
 
       stands : liveOf after (awaitsNow row (Piece k later)) (Piece k later) ≡ some now
       unfolding liveOf awaitsNow withSplit regionAt going
@@ -288,10 +287,6 @@ module _ (s : State) (i : Sound s) (n t : ℕ) (found : names (rowAt s (rowOf t)
   abbrev fate : Fate
   fate = pieceAnswered (s .settings) g (regionAt s (row .handle) .forced) (s .poison) row k sp piece bytes (answerOf result) back n
 
-  several-pieces : (piece ≡ sp .total → ⊥) → splitOf g k sp ≡ some sp
-  unfolding splitOf pick
-  several-pieces ne = rw (ne-eqb piece (sp .total) ne) refl
-
   module _ (above : abovePiece piece (answerOf result) ≡ false) where
     fits-within : within sp (answerOf result)
     fits-within = count-within g k sp (facts .left) (answerOf result) above
@@ -305,10 +300,10 @@ module _ (s : State) (i : Sound s) (n t : ℕ) (found : names (rowAt s (rowOf t)
       where
         by-case : Dec (piece ≡ sp .total) → rust ≡ carried s n row (tableOf s) t k last
         by-case (yes one) = one-ends one fits-within
-        by-case (no ne) = last-ends (several-pieces ne) stops fits-within
+        by-case (no ne) = last-ends (split-some g k sp ne) stops fits-within
 
     next-square : goesOn piece sp (answerOf result) back ≡ true → Finishes n rust (settled s t row (awaitsFate (Piece k (splitAfter piece sp)) (turned (sp .total) piece bytes)))
-    next-square onward = goes-on (several-pieces (λ one. let more = goes-on-left piece sp (answerOf result) back onward in omega arith)) onward
+    next-square onward = goes-on (split-some g k sp (λ one. let more = goes-on-left piece sp (answerOf result) back onward in omega arith)) onward
 
   answered-square : compared (settled s t row fate .1) ≡ true → Finishes n rust (settled s t row fate)
   unfolding pieceAnswered settled compared number

@@ -227,7 +227,20 @@ two-nots false false = refl
 
 pub receipt-same : (store : Store) (t : WriteTicket) (need : ℕ) → «receipt_for» store t need ≡ «durable_receipt» store t need
 unfolding «receipt_for» «durable_receipt» receiptFor
-receipt-same store t need = rw (two-nots (eqb need (2 ^ 64 - 1)) (eqb need 0)) refl
+receipt-same store t need = λ j. record {
+  volume = t .volume;
+  region = t .region;
+  generation = t .generation;
+  class = store .settings .class;
+  label = store .settings .label;
+  start = t .start;
+  through = t .end;
+  untorn = false;
+  need = need;
+  prefix = false;
+  synced = two-nots (eqb need (2 ^ 64 - 1)) (eqb need 0) j;
+  epoch = t .epoch;
+}
 
 -- ---- what the Rust asserts
 

@@ -20,3 +20,4 @@ pub mod Writing
 pub mod Reading
 pub mod Leaving
 pub mod AsStep
+pub mod Example

@@ -1,11 +1,13 @@
 -- A live row of `step` that awaits a piece: what is known of its range, the Rust's operation there, and that its end is concluded alike.
-use mathlib.Core.Path.{_≡_, refl}
+use mathlib.Core.Path.{_≡_, refl, ap}
 use mathlib.Core.Bool.{Bool, true, false}
 use mathlib.Core.List.{List}
-use mathlib.Core.Option.{some}
+use mathlib.Core.Option.{none, some}
 use Prim.Native.Nat.{ℕ, _+_, _-_, _≤_, _<_}
 use native.Mathlib.Omega.{arith}
+use borrow.Author.Tests.{eq-eqb, ne-eqb}
 use lib.ListN.{length}
+use Rattle.layout.specs.Pick.{pick}
 use Rattle.regionmap.proofs.Laws.{map-laws}
 use Rattle.platform.specs.declared.Answer.{Answer}
 use Rattle.model.specs.declared.Kind.{Kind}
@@ -29,6 +31,15 @@ use Rattle.rusttable.specs.AsStep.{splitOf, liveOf, rowAs, tableOf, stor
 use Rattle.rusttable.proofs.Rows.{Has, has-live}
 use Rattle.rusttable.proofs.Handed.{bufAs}
 use Rattle.rusttable.proofs.Concluding.{resultFor, isRefused, within, carried, operationOf, read-ends, write-ends}
+
+-- the Rust's split: none of a piece that is the whole operation, else the operation's
+pub split-none : (g : Plan) (k : Kind) (sp : Split) → pieceLength g k sp ≡ sp .total → splitOf g k sp ≡ none
+unfolding splitOf pick
+split-none g k sp e = ap (λ (b : Bool). pick b none (some sp)) (eq-eqb (pieceLength g k sp) (sp .total) e)
+
+pub split-some : (g : Plan) (k : Kind) (sp : Split) → (pieceLength g k sp ≡ sp .total → ⊥) → splitOf g k sp ≡ some sp
+unfolding splitOf pick
+split-some g k sp ne = ap (λ (b : Bool). pick b none (some sp)) (ne-eqb (pieceLength g k sp) (sp .total) ne)
 
 -- the piece under way, of an operation of some kind and split, in a buffer of some capacity
 pub record Placed (g : Plan) (k : Kind) (sp : Split) (capacity : ℕ) : Type 0 where

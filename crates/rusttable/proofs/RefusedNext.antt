@@ -2,7 +2,7 @@
 use mathlib.Core.Path.{_≡_, refl, ap, sym, _∙_}
 use mathlib.Core.Bool.{Bool, true, false}
 use mathlib.Core.List.{List}
-use mathlib.Core.Option.{Option, none, some}
+use mathlib.Core.Option.{Option, none, some, Option·map}
 use Prim.Native.Nat.{ℕ, _<_}
 use native.Mathlib.Omega.{arith}
 use borrow.Author.Tests.{ltb-true, ne-eqb}
@@ -28,7 +28,7 @@ use Rattle.step.proofs.Fates.{fate-fits}
 use Rattle.step.proofs.QuietRules.{piece-most}
 use Rattle.rusttable.specs.Table.{Result.Err, IoBuf, RawError, NotWrittenCause.QueueFull, Live, Table, Finish, Finish.Finished, Submitter}
 use Rattle.rusttable.specs.Table.{Row as RustRow}
-use Rattle.rusttable.specs.Functions.{given, isSome, returned, put, rowWith, withSplit, withTable, asRead, region, release, «not_written», «ctx_range», refusedAs, conclude, «refused_next»}
+use Rattle.rusttable.specs.Functions.{given, isSome, inOrder, returned, put, rowWith, withSplit, withTable, asRead, region, release, «not_written», «ctx_range», refusedAs, conclude, «refused_next»}
 use Rattle.rusttable.specs.Domain.{compared}
 use Rattle.rusttable.specs.AsStep.{Finishes, isLater, refusalOf, contextOf, outcomeOf, bufOf, splitOf, rowAs, tableOf, storeOf, submitterOf, pieceIn, inFlight}
 use Rattle.rusttable.proofs.Rows.{Has, live-is, has-put}
@@ -36,7 +36,7 @@ use Rattle.rusttable.proofs.Handed.{bufAs}
 use Rattle.rusttable.proofs.Concluding.{resultFor, isRefused, within, carried, operationOf}
 use Rattle.rusttable.proofs.Carried.{last-ended, carried-put, carried-settled}
 use Rattle.rusttable.proofs.Turning.{order-back}
-use Rattle.rusttable.proofs.Pieces.{Placed, placed, its-live, there, has, Told, kind-ends}
+use Rattle.rusttable.proofs.Pieces.{split-some, Placed, placed, its-live, there, has, Told, kind-ends}
 use Rattle.rusttable.proofs.Within.{called-step, found-under}
 
 -- the result that a refusal comes to
@@ -112,8 +112,7 @@ module _ (s : State) (i : Sound s) (n t : ℕ) (found : names (rowAt s (rowOf t)
   facts = placed s i t found k sp awaits
 
   several : splitOf g k sp ≡ some sp
-  unfolding splitOf pick
-  several = let most = piece-most g k sp in rw (ne-eqb piece (sp .total) (λ e. omega (arith, most, later, facts .left))) refl
+  several = let most = piece-most g k sp in split-some g k sp (λ e. omega (arith, most, later, facts .left))
 
   abbrev ordered : Option IoBuf
   ordered = bufAs (bufferAs back (row .buffer) (sp .total)) (turnedBack back sp bytes)
@@ -121,12 +120,18 @@ module _ (s : State) (i : Sound s) (n t : ℕ) (found : names (rowAt s (rowOf t)
   abbrev taken : Submitter
   taken = record { store = storeOf s n; table = T }
 
+  in-order : Option·map (inOrder sp) (returned back buf) ≡ ordered
+  unfolding bufOf
+  in-order = order-back (row .buffer) piece bytes sp (facts .room) back
+
   refused-is : (raw : Option RawError) → rust raw
       ≡ pick (isSome raw) (conclude taken t ordered (resultFor sp (refusalOf raw)))
       (given (asRead k) (conclude taken t ordered (resultFor sp (refusalOf raw))) λ r. (withTable taken (release T t ordered (Err («not_written» QueueFull («ctx_range» (regionAt s (row .handle)) (r .0) (r .1))))), Finished))
   unfolding «refused_next» given withSplit withTable submitterOf bufOf region storeOf regionAt
   refused-is raw =
-      rw (live-is (tableOf s) t (rowAs s row) live (has s i t found k sp awaits), several) (rw (order-back (row .buffer) piece bytes sp (facts .room) back, refused-result sp raw) refl)
+      rw (live-is (tableOf s) t (rowAs s row) live (has s i t found k sp awaits), several)
+      (λ j. pick (isSome raw) (conclude taken t (in-order j) (refused-result sp raw j))
+      (given (asRead k) (conclude taken t (in-order j) (refused-result sp raw j)) λ r. (withTable taken (release T t (in-order j) (Err («not_written» QueueFull («ctx_range» (regionAt s (row .handle)) (r .0) (r .1))))), Finished)))
 
   has-taken : Has T t (rowWith (rowAs s row) (some (operationOf row k))) (operationOf row k)
   has-taken = has-put (tableOf s) t (rowAs s row) live (has s i t found k sp awaits) (operationOf row k)

@@ -279,7 +279,7 @@ unfoldable pub asRead : Kind → Option (Position × Position)
 asRead (Page start end) = none
 asRead (Reads start end) = some (start, end)
 
--- `region`: the region a row's pass was admitted to
+-- `region`: the region a row's pass was admitted to; a page operation always has its pass, so there is one
 unfoldable pub region : Store → Live → Region
 region store live = getD (store .regions) (live .handle) noRegion
 
