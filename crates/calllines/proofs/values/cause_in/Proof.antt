@@ -12,7 +12,7 @@ error-in-requires c κs = search needs
 
 returns : tie.Need-returns
 unfolding causeIn
-returns c = cc
+returns c = rw (c .error-in .ensures, c .before .op-in .ensures)
 
 pub cause-in-spec : {M : Type 1} → statement M
 cause-in-spec = tie.close (tie.spec op-in-requires error-in-requires returns)

@@ -9,7 +9,7 @@ value-in-requires c κs = search needs
 
 returns : tie.Need-returns
 unfolding flagIn
-returns c = cc
+returns c = rw (c .value-in .ensures)
 
 pub flag-in-spec : {M : Type 1} → statement M
 flag-in-spec = tie.close (tie.spec value-in-requires returns)

@@ -1,4 +1,5 @@
 -- `calllines::is_cause` meets its contract: its tests are those of the definition.
+use mathlib.Core.Path.{_∙_}
 use Rattle.calllines.specs.Said.{isCause}
 use borrow.Author.Needs.{needs}
 use Rattle.calllines.proofs.values.is_cause.Statement.{statement}
@@ -15,7 +16,7 @@ both-requires c κs = search needs
 
 returns : tie.Need-returns
 unfolding isCause
-returns c = cc
+returns c = c .both .ensures ∙ rw (c .before .is-error .ensures, c .before .before .is-op .ensures)
 
 pub is-cause-spec : {M : Type 1} → statement M
 is-cause-spec = tie.close (tie.spec is-op-requires is-error-requires both-requires returns)

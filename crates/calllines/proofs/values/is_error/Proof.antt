@@ -1,4 +1,5 @@
 -- `calllines::is_error` meets its contract: its tests are those of the definition.
+use mathlib.Core.Path.{_∙_}
 use Rattle.calllines.specs.Said.{isError}
 use borrow.Author.Needs.{needs}
 use Rattle.calllines.proofs.values.is_error.Statement.{statement}
@@ -18,7 +19,7 @@ either-requires c κs = search needs
 
 returns : tie.Need-returns
 unfolding isError
-returns c = cc
+returns c = c .either .ensures ∙ rw (c .before .is-word .ensures, c .before .before .before .is-raw .ensures)
 
 pub is-error-spec : {M : Type 1} → statement M
 is-error-spec =

@@ -1,4 +1,5 @@
 -- `calllines::is_op` meets its contract: its tests are those of the definition.
+use mathlib.Core.Path.{_∙_}
 use Rattle.calllines.specs.Said.{isOp}
 use borrow.Author.Needs.{needs}
 use Rattle.calllines.proofs.values.is_op.Statement.{statement}
@@ -39,7 +40,7 @@ either-requires-3 c κs = search needs
 
 returns : tie.Need-returns
 unfolding isOp
-returns c = cc
+returns c = c .either3 .ensures ∙ rw (c .before .either2 .ensures, c .before .before .either .ensures, c .before .before .before .is-word4 .ensures, c .before .before .before .before .before .is-word3 .ensures, c .before .before .before .before .before .before .before .is-word2 .ensures, c .before .before .before .before .before .before .before .before .before .is-word .ensures)
 
 pub is-op-spec : {M : Type 1} → statement M
 is-op-spec =

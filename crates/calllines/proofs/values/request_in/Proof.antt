@@ -33,7 +33,7 @@ value-in-requires-8 c κs = search needs
 
 returns : tie.Need-returns
 unfolding requestIn
-returns c = cc
+returns c = rw (c .value-in8 .ensures, c .before .flag-in .ensures, c .before .before .value-in7 .ensures, c .before .before .before .value-in6 .ensures, c .before .before .before .before .value-in5 .ensures, c .before .before .before .before .before .value-in4 .ensures, c .before .before .before .before .before .before .value-in3 .ensures, c .before .before .before .before .before .before .before .value-in2 .ensures, c .before .before .before .before .before .before .before .before .value-in .ensures)
 
 pub request-in-spec : {M : Type 1} → statement M
 request-in-spec =
