@@ -1,4 +1,5 @@
 -- What the proofs of this crate share.
+pub mod Examples
 pub mod Laws
-pub mod Words
 pub mod Whole
+pub mod Words
