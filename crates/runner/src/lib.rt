@@ -76,7 +76,7 @@ fn run(
     Answered {
         rows: held,
         counts: counted,
-        printed: texts::short_text(reply, out),
+        printed: shorttexts::short_text(reply, out),
     }
 }
 

@@ -1,4 +1,4 @@
--- `trace::bad_text` meets its contract: it is the numbered line of its word.
+-- `texts::bad_text` meets its contract: it is the numbered line of its word.
 use Rattle.texts.specs.Texts.{badWord, badText}
 use borrow.Author.Needs.{needs}
 use Rattle.texts.proofs.bad_text.Statement.{statement}

@@ -1,4 +1,4 @@
--- `trace::no_text` meets its contract: it is the numbered line of its word and the refusal's number.
+-- `texts::no_text` meets its contract: it is the numbered line of its word and the refusal's number.
 use mathlib.Core.Path.{_∙_}
 use Rattle.texts.specs.Texts.{noWord}
 use borrow.Author.Needs.{needs}

@@ -1,4 +1,4 @@
--- `trace::number_of` meets its contract: each arm knows which refusal it is, and there the definition computes.
+-- `texts::number_of` meets its contract: each arm knows which refusal it is, and there the definition computes.
 use borrow.Author.Needs.{needs}
 use Rattle.completion.specs.Numbers.{number}
 use Rattle.texts.proofs.number_of.Statement.{statement}

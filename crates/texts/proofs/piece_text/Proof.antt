@@ -1,4 +1,4 @@
--- `trace::piece_text` meets its contract: each part stands behind those put before it, so the buffer's front is the parts in their order.
+-- `texts::piece_text` meets its contract: each part stands behind those put before it, so the buffer's front is the parts in their order.
 use mathlib.Core.Path.{_∙_}
 use native.Mathlib.Omega.{arith}
 use Rattle.texts.specs.Texts.{pieceWord, pieceText}
