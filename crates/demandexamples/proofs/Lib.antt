@@ -1,0 +1,4 @@
+-- Examples that meet the suppositions of demands 2 and 3.
+pub mod Quiet
+pub mod Demand2Example
+pub mod Demand3Example
