@@ -22,14 +22,7 @@ pub enum Asks {
 }
 
 // A request in handle 0.
-fn request(
-    named: Named,
-    buffer: u64,
-    position: u64,
-    length: u64,
-    durable: bool,
-    tag: u64,
-) -> Request
+fn request(named: Named, buffer: u64, position: u64, length: u64, durable: bool, tag: u64) -> Request
     ensures { λ r. ⌜ r ≡ requestOf named buffer position length durable tag ⌝ }
 {
     Request {

@@ -107,6 +107,8 @@ pub fn answer(
             counts,
             printed: texts::bad_text(number, out),
         },
-        Asks::Call(call) => run(call, counts, rows, store, free, ready, owners, pool, out),
+        Asks::Call(call) => run(
+            call, counts, rows, store, free, ready, owners, pool, out,
+        ),
     }
 }
