@@ -6,7 +6,7 @@ use mathlib.Core.Path.{_≡_, refl}
 use mathlib.Core.Bool.{Bool, true, false}
 use mathlib.Core.List.{List, [], _∷_, _++_}
 use Prim.Native.Nat.{ℕ, zero, suc}
-use lib.ListN.{length, replicate, length-replicate}
+use lib.ListN.{length, getD, take, replicate, length-replicate}
 use Rattle.layout.specs.Pick.{pick}
 use Rattle.layout.specs.Block.{powerBelow, isBlock, onBlock}
 use Rattle.regionmap.specs.Map.{spanFrom, runOf, runEnd, runLeft, place, pieceSize, ascends, spansFrom, spans, extent, extents, apart, apartFrom, allApart, allWithin}
@@ -240,6 +240,9 @@ pub record Computed : Type 0 where
   pub fair₂ : fits s second ≡ true
   pub replied₁ : replies s l₁ ≡ replies₁
   pub replied₂ : replies s l₂ ≡ replies₂
+  -- the host's writes: the first byte of the buffer before and after
+  pub wrote₁ : (getD (run s (take 4 l₁) .pool) 0 0 ≡ 5) × (getD (run s (take 5 l₁) .pool) 0 0 ≡ 7)
+  pub wrote₂ : (getD (run s (take 7 l₂) .pool) 6144 0 ≡ 8) × (getD (run s (take 8 l₂) .pool) 6144 0 ≡ 7)
   pub row-0 : Is 0 0 512 1536 true
   pub row-1 : Is 1 0 1536 2048 false
   pub row-2 : Is 2 0 2048 2560 false
@@ -271,6 +274,8 @@ computed = record {
   fair₂ = refl;
   replied₁ = refl;
   replied₂ = refl;
+  wrote₁ = (refl, refl);
+  wrote₂ = (refl, refl);
   row-0 = record { handle-is = refl; start-is = refl; end-is = refl; write-is = refl };
   row-1 = record { handle-is = refl; start-is = refl; end-is = refl; write-is = refl };
   row-2 = record { handle-is = refl; start-is = refl; end-is = refl; write-is = refl };
