@@ -22,35 +22,23 @@ use Rattle.model.specs.declared.Lookup.the-variants.{Mark as MarkNow}
 use Rattle.model.specs.State.{State, freed, upFrom}
 use Rattle.model.specs.Opening.{atFirst, opened}
 use Rattle.model.specs.Memory.{planIn, plansIn}
 use Rattle.step.specs.Questions.{ask, firstNo, handleNamesRegion, bufferInPool, isHost, heldAt, hostHoldsBuffer, roomInTable, lifetimeLeft, gateOpen, storeWritable, unpoisoned}
 use Rattle.step.specs.Questions.{regionWritable, volumeAndRegionMatch, generationMatches, lengthAbove0, writeOnBlock, readOnBlock, aligned, withinData, regionAt}
 use Rattle.step.specs.Questions.{writeQuestions, readQuestions}
 use Rattle.step.specs.Rules.{opOf, firstOf, lastOf, rangeOf, pieceOf, pieceLength, Input, Input.answered, bufferAs, errorOf, turnedBack, isWritten, causeOf, readOutcome, readLength, ticketOf, writtenAs, lastPiece}
 use Rattle.step.specs.Rules.{abovePiece, isRefusal, firstRefused, isWhole, goesOn, splitAfter, pieceAnswered, flushEnds, answerRules, flushRules, rules}
 use Rattle.step.specs.Step.{writesIn, queueTag, topOf, rowAt, verdictOf, writeVerdict, readVerdict, durableAs, claimedBy, oneMore, accepted, submitted, rowOf, generationOf, isLive, names, bytesAt, raised, awaitsNow, oneLess, keptBy, poisonWith}
 use Rattle.step.specs.Step.{going, freeing, planOf, asksFor, completionOf, rejection, settled, fateOf, underTag, lookedUp, eqLengths, called, step, look}
 use Rattle.step.specs.Laws.{Made, Made.calls, Made.looks, Event, leave, done, next, replyTo, run}
 use Rattle.step.specs.Lists.{broughtBy, brought, isAway, loose, planAt, leftIn, takesWhole, wroteBy, tagIn, cardBy, HostMay, Hosted}
 use Rattle.step.specs.Alone.{tagGiven}
 use Rattle.step.specs.Figures.{figuresOpening, figuresPlan, figuresLengths}
 use Rattle.step.specs.Demand3.{Start, plansOf, openedBy, after}
 use Rattle.step.specs.Demand2.{WholeTo, HoldsCard, TakenWhole, Undisturbed, Served, Accepted, Wrote, DidRead, PiecesDone}
 use Rattle.step.proofs.AloneTags.{clash}
 use Rattle.step.proofs.Figures.{figures}
 use Rattle.step.proofs.Demand2.{demand2}
-
--- ---- events after which the pool is as it was
-
-abbrev quiet : State → Made → Event
-quiet s m = record { leaves = s .pool; lengths = s .lengths; made = m }
-
-unfoldable quietly : State → List Made → List Event
-quietly s [] = []
-quietly s (m ∷ ms) = quiet s m ∷ quietly (next s (quiet s m)) ms
-
-may : (s : State) → HostMay s (s .pool)
-unfolding bytesAt
-may s = record { count = refl; each = λ b lt. inr (inl refl) }
+use Rattle.demandexamples.proofs.Quiet.{quiet, quietly, may}
 
 -- what is left to suppose of them
 unfoldable ServedAll : State → List Made → ℕ → Request → Card → Type 0
