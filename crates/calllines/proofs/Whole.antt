@@ -11,8 +11,8 @@ use Rattle.layout.specs.Pick.{pick}
 use Rattle.trace.specs.declared.Reader.{Reader}
 use Rattle.trace.specs.Trace.{Kept}
 use Rattle.trace.proofs.Kept.{past, first, within}
-use Rattle.calllines.specs.declared.Said.the-variants.{Comment, Bad}
-use Rattle.calllines.specs.Said.{saidIn, saidRead}
+use Rattle.lineforms.specs.declared.Said.the-variants.{Comment, Bad}
+use Rattle.lineforms.specs.Said.{saidIn, saidRead}
 
 module _ {r : Reader} {line bytes : List ℕ} (k : Kept r line bytes) where
   pub cut-short : r .long ≡ true → saidRead bytes ≡ pick (eqb (getD line 0 0) 35) Comment Bad

@@ -1,52 +1,84 @@
-// The calls of a trace, read: what each line says, of its bytes without the line's end.
-mod forms;
-mod kept;
-mod values;
-
-pub use forms::optrun_line;
-pub use forms::said_in;
-pub use kept::finish;
+// The calls of a trace, read: what each line says, of its bytes without the line's end, and what optrun takes of it.
+// A line may be of any length: trace's reader keeps its first 4,096 bytes, and whether there are more.
+ghost use mathlib.Core.Path.{_≡_};
+ghost use mathlib.Core.List.{List};
+ghost use Prim.Native.Nat.{ℕ, _≤_};
+ghost use lib.ListN.{length, take};
+ghost use Rattle.trace.specs.Trace.{Kept};
+ghost use Rattle.lineforms.specs.Said.{saidIn, saidRead, takeOnly, optrunLine};
+use lineforms::Said;
 use model::Call;
-use model::Lookup;
+use trace::Reader;
 
 // What a line says.
-pub enum Said {
-    // "A line that starts with `#` is passed over"
-    Comment,
-    Call(Call),
-    // `w` and `r`: "handle 0, with its own volume, id and generation"
-    Own {
-        write: bool,
-        buffer: u64,
-        position: u64,
-        length: u64,
-        durable: bool,
-        tag: u64,
-    },
-    // `a`: "a count; buffer back; the flush count last given, 0 at first"
-    Count {
-        qtag: u64,
-        count: u64,
-    },
-    // "the lookups"
-    Look(Lookup),
-    // "a lookup with another length of row memory"
-    Len,
-    // "the host writes"
-    Fill {
-        buffer: u64,
-        at: u64,
-        length: u64,
-        seed: u64,
-    },
-    // "the host looks at a buffer"
-    Sum {
-        buffer: u64,
-        at: u64,
-        length: u64,
-    },
-    // "generations and free stack"
-    Rows,
-    // A line of another form.
-    Bad,
+pub fn said_in(text: &[u8]) -> Said
+    ensures { λ r. ⌜ r ≡ saidIn (now (text .entry)) ⌝ }
+{
+    if fields::first_byte(text) == 35 {
+        return Said::Comment;
+    }
+    match fields::count_spaces(text) {
+        0 => lineforms::of_none(text),
+        2 => twofields::of_two(text),
+        3 => threefields::of_three(text),
+        4 => fourfields::of_four(text),
+        5 => morefields::of_five(text),
+        6 => morefields::of_six(text),
+        9 => ninefields::of_nine(text),
+        _ => Said::Bad,
+    }
+}
+
+// Of the calls only `t`.
+fn take_only(call: Call) -> Said
+    ensures { λ r. ⌜ r ≡ takeOnly call ⌝ }
+{
+    match call {
+        Call::Take => Said::Call(call),
+        _ => Said::Bad,
+    }
+}
+
+// What is taken of a line by optrun, which "reads `w`, `r`, `a` and `t` of these".
+pub fn optrun_line(said: Said) -> Said
+    ensures { λ r. ⌜ r ≡ optrunLine said ⌝ }
+{
+    match said {
+        Said::Comment => said,
+        Said::Own {
+            write: _,
+            buffer: _,
+            position: _,
+            length: _,
+            durable: _,
+            tag: _,
+        } => said,
+        Said::Count { qtag: _, count: _ } => said,
+        Said::Call(call) => take_only(call),
+        _ => Said::Bad,
+    }
+}
+
+// What the first bytes of a line say.
+fn said_front(line: &[u8], kept: usize) -> Said
+    requires { ⌜ kept ≤ length (now line) ⌝ }
+    ensures { λ r. ⌜ r ≡ saidIn (take kept (now (line .entry))) ⌝ }
+{
+    said_in(&line[..kept])
+}
+
+// What the line says, once all its bytes are there.
+pub fn finish(r: Reader, line: &[u8; 4096]) -> Said
+    ensures { λ s. ⌜ ((bytes : List ℕ) → Kept r (now (line .entry)) bytes → s ≡ saidRead bytes) ⌝ }
+{
+    if r.long {
+        if line[0] == 35 {
+            return Said::Comment;
+        }
+        return Said::Bad;
+    }
+    if 4096 < r.kept {
+        return Said::Bad;
+    }
+    said_front(line, r.kept)
 }

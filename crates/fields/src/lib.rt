@@ -4,14 +4,6 @@ ghost use Prim.Native.Nat.{_+_, _≤_};
 ghost use lib.ListN.{length, getD, drop};
 ghost use Rattle.fields.specs.Fields.{spaces, field, numberIn};
 
-mod words;
-
-pub use words::are_numbers;
-pub use words::is_flag;
-pub use words::is_number;
-pub use words::is_word;
-pub use words::value_in;
-
 // What a field holds: whether it is a number, and which (0 where it is none).
 pub struct Field {
     pub is: bool,
@@ -34,7 +26,7 @@ pub fn count_spaces(text: &[u8]) -> usize
 }
 
 // Where the k-th field begins; the line's end where there is none.
-fn field_start(text: &[u8], k: usize) -> usize
+pub fn field_start(text: &[u8], k: usize) -> usize
     ensures { λ r. ⌜ (r ≤ length (now (text .entry))) × (field k (now (text .entry)) ≡ field 0 (drop r (now (text .entry)))) ⌝ }
 {
     let mut left = k;
@@ -52,7 +44,7 @@ fn field_start(text: &[u8], k: usize) -> usize
 }
 
 // Where the field that begins at `from` ends.
-fn field_end(text: &[u8], from: usize) -> usize
+pub fn field_end(text: &[u8], from: usize) -> usize
     requires { ⌜ from ≤ length (now text) ⌝ }
     ensures { λ r. ⌜ (r ≤ length (now (text .entry))) × (r ≡ from + length (field 0 (drop from (now (text .entry))))) ⌝ }
 {

@@ -7,8 +7,8 @@ use Rattle.platform.specs.declared.Answer.the-variants.{Count as counted}
 use Rattle.model.specs.declared.Request.{Request}
 use Rattle.model.specs.declared.Call.{Call as CallOf}
 use Rattle.model.specs.declared.Call.the-variants.{Write, ReadPage, Answer}
-use Rattle.calllines.specs.declared.Said.{Said}
-use Rattle.calllines.specs.declared.Said.the-variants.{Comment, Call as callSaid, Own, Count, Look, Len, Fill, Sum, Rows, Bad}
+use Rattle.lineforms.specs.declared.Said.{Said}
+use Rattle.lineforms.specs.declared.Said.the-variants.{Comment, Call as callSaid, Own, Count, Look, Len, Fill, Sum, Rows, Bad}
 use Rattle.linecalls.specs.declared.Named.{Named}
 use Rattle.linecalls.specs.declared.Asks.{Asks}
 use Rattle.linecalls.specs.declared.Asks.the-variants.{Nothing, Call, Other}

@@ -1,7 +1,7 @@
 // The call that a line of a trace asks for.
 ghost use mathlib.Core.Path.{_≡_};
 ghost use Rattle.linecalls.specs.Asks.{requestOf, submissionOf, asksOf};
-use calllines::Said;
+use lineforms::Said;
 use model::Call;
 use model::Request;
 use platform::Answer;
@@ -22,7 +22,14 @@ pub enum Asks {
 }
 
 // A request in handle 0.
-fn request(named: Named, buffer: u64, position: u64, length: u64, durable: bool, tag: u64) -> Request
+fn request(
+    named: Named,
+    buffer: u64,
+    position: u64,
+    length: u64,
+    durable: bool,
+    tag: u64,
+) -> Request
     ensures { λ r. ⌜ r ≡ requestOf named buffer position length durable tag ⌝ }
 {
     Request {

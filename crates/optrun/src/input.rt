@@ -1,7 +1,7 @@
 // The input, cut at LF, a line at a time; "lines end in LF, the last one's end may be missing".
 ghost use Prim.Native.Nat.{_≤_};
 ghost use lib.ListN.{length};
-use calllines::Said;
+use lineforms::Said;
 use trace::Reader;
 
 // Where the input stands: the line as far as it was read, its number, whether it is complete, what is left of the bytes read last, and whether the

@@ -3,8 +3,8 @@
 // and runner; here the input is cut at LF and the lines are counted.
 mod input;
 
-use calllines::Said;
 use input::Input;
+use lineforms::Said;
 use model::Counts;
 use model::Row;
 use runner::Answered;

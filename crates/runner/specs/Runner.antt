@@ -11,7 +11,7 @@ use Rattle.linecalls.specs.declared.Named.{Named}
 use Rattle.linecalls.specs.declared.Asks.{Asks}
 use Rattle.linecalls.specs.declared.Asks.the-variants.{Nothing, Call as calls, Other}
 use Rattle.texts.specs.Texts.{badText}
-use Rattle.texts.specs.Short.{shortText}
+use Rattle.shorttexts.specs.Short.{shortText}
 
 -- "handle 0, with its own volume, id and generation"
 unfoldable pub figuresNamed : Named

@@ -76,7 +76,7 @@ fn run(
     Answered {
         rows: held,
         counts: counted,
-        printed: texts::short_text(reply, out),
+        printed: shorttexts::short_text(reply, out),
     }
 }
 
@@ -107,8 +107,6 @@ pub fn answer(
             counts,
             printed: texts::bad_text(number, out),
         },
-        Asks::Call(call) => run(
-            call, counts, rows, store, free, ready, owners, pool, out,
-        ),
+        Asks::Call(call) => run(call, counts, rows, store, free, ready, owners, pool, out),
     }
 }

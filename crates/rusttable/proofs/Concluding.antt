@@ -147,7 +147,7 @@ module _ (s : State) (n : ℕ) (row : Row) (T : Table) (t : ℕ) where
       read-handed : (answer : Answer) (back : Bool) → isRefused answer ≡ false → within sp answer
           → handBack x t (back-in-order back sp bytes) (mapOk Read («settle_read» g a b (back-in-order back sp bytes) (resultFor sp answer))) ≡ carried (Reads a b) (fate (Reads a b) sp bytes answer back)
       unfolding lastPiece carried failedRead pick mapOk «settle_read» «not_written» outcomeOf bufferAs bufAs handBack shortened readLen given contextOf «ctx_range» rangeOf planOf firstOf lastOf withTable poisonWith storeOf resultFor readOutcome readLength turnedBack within isRefused
-      read-handed (Count m) true plain le = rw (shorter m le) refl
+      read-handed (Count m) true plain le = λ j. (record { store = poisoned none; table = release T t (some (shorter m le j)) (Ok (Read (sp .done + m))) }, Finished)
       read-handed (Count m) false plain le = refl
       read-handed (Failed e true) true plain le = refl
       read-handed (Failed e true) false plain le = refl

@@ -44,7 +44,6 @@ pub mod QuietLists
 pub mod CardBytes
 pub mod CardLists
 pub mod Demand3
-pub mod Demand3Example
 pub mod Demand2Others
 pub mod Demand2Bytes
 pub mod Demand2Fate
@@ -53,4 +52,3 @@ pub mod Demand2Event
 pub mod Demand2Walk
 pub mod Demand2Begun
 pub mod Demand2
-pub mod Demand2Example

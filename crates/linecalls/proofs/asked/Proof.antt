@@ -4,9 +4,9 @@ use mathlib.Core.List.{List, [], _∷_}
 use Prim.Native.Nat.{ℕ}
 use types.Run.{OneOf, miss}
 use denote.Enum.Declared.{tagOf}
-use Rattle.calllines.specs.declared.Said.{Said}
-use Rattle.calllines.specs.declared.Said.the-variants.{Comment, Call as callSaid, Own, Count, Look, Len, Fill, Sum, Rows, Bad}
-use Rattle.calllines.proofs.Said as Declared
+use Rattle.lineforms.specs.declared.Said.{Said}
+use Rattle.lineforms.specs.declared.Said.the-variants.{Comment, Call as callSaid, Own, Count, Look, Len, Fill, Sum, Rows, Bad}
+use Rattle.lineforms.proofs.Said as Declared
 use Rattle.linecalls.specs.declared.Named.{Named}
 use Rattle.linecalls.specs.declared.Asks.the-variants.{Call, Other}
 use Rattle.linecalls.specs.Asks.{submissionOf, asksOf}

@@ -1,0 +1,24 @@
+-- `linecauses::error_in` meets its contract: each way out knows whether there is a number.
+use mathlib.Core.Path.{sym, _∙_}
+use Rattle.layout.specs.Pick.{pick}
+use Rattle.linevalues.specs.Values.{errorIn}
+use borrow.Author.Needs.{needs}
+use Rattle.linecauses.proofs.error_in.Statement.{statement}
+use Rattle.linecauses.proofs.error_in.Tie as tie
+
+is-raw-requires : tie.Need-is-raw-requires
+is-raw-requires c κs = search needs
+
+raw-in-requires : tie.Need-raw-in-requires
+raw-in-requires c κs = search needs
+
+returns : tie.Need-returns
+unfolding errorIn pick
+returns c = rw (sym (c .before .before .is-raw .ensures) ∙ c .before .if1 .taken, sym (c .raw-in .ensures))
+
+returns-2 : tie.Need-returns-2
+unfolding errorIn pick
+returns-2 c = rw (sym (c .before .is-raw .ensures) ∙ c .if1 .left)
+
+pub error-in-spec : {M : Type 1} → statement M
+error-in-spec = tie.close (tie.spec is-raw-requires raw-in-requires returns returns-2)

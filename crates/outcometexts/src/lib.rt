@@ -1,0 +1,25 @@
+// What replay prints of an outcome, put behind the first `at` bytes of a buffer.
+ghost use mathlib.Core.Path.{_≡_};
+ghost use mathlib.Core.List.{_++_};
+ghost use Prim.Native.Nat.{_+_, _≤_};
+ghost use lib.ListN.{length, take};
+ghost use Rattle.outcometexts.specs.Outcomes.{outcomeText};
+use completion::Outcome;
+
+// Puts what an operation came to.
+pub fn put_outcome(outcome: Outcome, out: &mut [u8], at: usize) -> usize
+    requires { ⌜ at + 485 ≤ length (now out) ⌝ }
+    ensures { λ r. ⌜ (r ≤ at + 485) × ((length (now (out .exit)) ≡ length (now (out .entry))) × (take r (now (out .exit)) ≡ take at (now (out .entry)) ++ outcomeText outcome)) ⌝ }
+{
+    match outcome {
+        Outcome::Written(t) => tickettexts::put_ticketed(b" written", t, t.need, out, at),
+        Outcome::Receipt(t, d) => tickettexts::put_durable(t, d, out, at),
+        Outcome::Read { len } => textparts::put_read(len, out, at),
+        Outcome::Unknown(range, cause) => tickettexts::put_unknown(range, cause, out, at),
+        Outcome::Interrupted(range) => textparts::put_range(b" interrupted", range, out, at),
+        Outcome::Corruption(range) => textparts::put_range(b" media", range, out, at),
+        Outcome::Io { range, op: _, raw } => textparts::put_raw(b" io", range, raw, out, at),
+        Outcome::QueueFull(range) => textparts::put_range(b" full", range, out, at),
+        Outcome::Poisoned(cause) => causetexts::put_poisoned(cause, out, at),
+    }
+}

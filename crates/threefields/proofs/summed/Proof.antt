@@ -1,0 +1,40 @@
+-- `threefields::summed` meets its contract: the row of its word is the one that fits, and its parts are the row's.
+use mathlib.Core.Path.{_∙_}
+use Rattle.lineforms.proofs.Table.{sum-line}
+use borrow.Author.Needs.{needs}
+use Rattle.threefields.proofs.summed.Statement.{statement}
+use Rattle.threefields.proofs.summed.Tie as tie
+
+are-numbers-requires : tie.Need-are-numbers-requires
+are-numbers-requires c κs = search needs
+
+value-in-requires : tie.Need-value-in-requires
+value-in-requires c κs = search needs
+
+value-in-requires-2 : tie.Need-value-in-requires-2
+value-in-requires-2 c κs = search needs
+
+value-in-requires-3 : tie.Need-value-in-requires-3
+value-in-requires-3 c κs = search needs
+
+checked-requires : tie.Need-checked-requires
+checked-requires c κs = search needs
+
+returns : tie.Need-returns
+returns c =
+    let fit = c .before in
+    let start = fit .before .before .before .before .before in
+    c .checked .ensures
+    ∙ rw (fit .value-in3 .ensures, fit .before .value-in2 .ensures, fit .before .before .value-in .ensures, fit .before .before .before .are-numbers .ensures)
+    (sum-line (start .args .text .now) (start .pre .0) (start .pre .1))
+
+pub summed-spec : {M : Type 1} → statement M
+summed-spec =
+    tie.close
+    (tie.spec
+    are-numbers-requires
+    value-in-requires
+    value-in-requires-2
+    value-in-requires-3
+    checked-requires
+    returns)
