@@ -10,11 +10,11 @@ fn is_open(text: &[u8]) -> bool
     ensures { λ r. ⌜ r ≡ isOpen (now (text .entry)) ⌝ }
 {
     let count = fields::count_spaces(text);
-    let word = both(count == 12, fields::is_word(text, 0, b"open"));
-    let numbers = both(word, fields::are_numbers(text, 12));
+    let word = both(count == 12, fieldwords::is_word(text, 0, b"open"));
+    let numbers = both(word, fieldwords::are_numbers(text, 12));
     both(
-        both(numbers, fields::is_flag(text, 7)),
-        fields::is_flag(text, 8),
+        both(numbers, fieldwords::is_flag(text, 7)),
+        fieldwords::is_flag(text, 8),
     )
 }
 
@@ -22,18 +22,18 @@ fn is_open(text: &[u8]) -> bool
 fn opening_of(text: &[u8]) -> Opening
     ensures { λ r. ⌜ r ≡ openingOf (now (text .entry)) ⌝ }
 {
-    let depth = fields::value_in(text, 1);
-    let block = fields::value_in(text, 2);
-    let buffers = fields::value_in(text, 3);
-    let capacity = fields::value_in(text, 4);
-    let lifetime = fields::value_in(text, 5);
-    let card = fields::value_in(text, 6);
-    let read_only = fields::value_in(text, 7);
-    let flush = fields::value_in(text, 8);
-    let volume = fields::value_in(text, 9);
-    let class = fields::value_in(text, 10);
-    let label = fields::value_in(text, 11);
-    let epoch = fields::value_in(text, 12);
+    let depth = fieldwords::value_in(text, 1);
+    let block = fieldwords::value_in(text, 2);
+    let buffers = fieldwords::value_in(text, 3);
+    let capacity = fieldwords::value_in(text, 4);
+    let lifetime = fieldwords::value_in(text, 5);
+    let card = fieldwords::value_in(text, 6);
+    let read_only = fieldwords::value_in(text, 7);
+    let flush = fieldwords::value_in(text, 8);
+    let volume = fieldwords::value_in(text, 9);
+    let class = fieldwords::value_in(text, 10);
+    let label = fieldwords::value_in(text, 11);
+    let epoch = fieldwords::value_in(text, 12);
     Opening {
         block,
         depth,
@@ -60,8 +60,8 @@ fn is_region(text: &[u8]) -> bool
         return false;
     }
     let pairs = (count - 5) % 2 == 0;
-    let word = both(pairs, fields::is_word(text, 0, b"region"));
-    both(word, fields::are_numbers(text, count))
+    let word = both(pairs, fieldwords::is_word(text, 0, b"region"));
+    both(word, fieldwords::are_numbers(text, count))
 }
 
 // Whether a line is `start`.
@@ -69,7 +69,7 @@ fn is_start(text: &[u8]) -> bool
     ensures { λ r. ⌜ r ≡ isStart (now (text .entry)) ⌝ }
 {
     let count = fields::count_spaces(text);
-    both(count == 0, fields::is_word(text, 0, b"start"))
+    both(count == 0, fieldwords::is_word(text, 0, b"start"))
 }
 
 // What a line of an opening says.

@@ -23,12 +23,12 @@ fn word_in(text: &[u8], j: usize) -> u64
     ensures { λ r. ⌜ r ≡ regionWordIn j (now (text .entry)) ⌝ }
 {
     if j < 5 {
-        return fields::value_in(text, j + 1);
+        return fieldwords::value_in(text, j + 1);
     }
     if j == 5 {
         return runs_in(text);
     }
-    fields::value_in(text, j)
+    fieldwords::value_in(text, j)
 }
 
 // Puts a region's words into the plan from `at` on.
