@@ -18,12 +18,12 @@ pub mod Away
 pub mod Opened
 pub mod Memory
 pub mod Numbers
-pub mod Asked
 pub mod Histories
 pub mod Transfers
 pub mod Laws
 pub mod Figures
 pub mod AloneTags
+pub mod Asked
 pub mod QuietRules
 pub mod ProjectionFixed
 pub mod ProjectionHost

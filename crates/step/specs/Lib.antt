@@ -3,6 +3,7 @@ pub mod Rules
 pub mod Step
 pub mod Sound
 pub mod Laws
+pub mod Asked
 pub mod Lists
 pub mod Alone
 pub mod Demand3
