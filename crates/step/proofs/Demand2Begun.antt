@@ -163,7 +163,7 @@ module _ (x : Start) (s : State) (sound : Sound s) (fixed : Fixed x s) (e : Even
         (λ j. rowAt (next-is j) ((ap rowOf (sym (g .tag)) ∙ row-of-tag top (rowAt s₁ top .generation) small) j))
         ∙ getD-set-same (s₁ .rows) top (claimedBy (rowAt s₁ top .generation) (s₁ .counts .submissions) k q) (freed 0) (let lt = top-row s₁ sound₁ (g .passed .room) in let rows = sound₁ .rows in omega (arith, lt, rows))
 
-    in-row : InRow task (claimedBy (rowAt s₁ top .generation) (s₁ .counts .submissions) k q) 0
+    in-row : InRow task (claimedBy (rowAt s₁ top .generation) (s₁ .counts .submissions) k q) 0 0
     unfolding claimedBy isLive
     in-row = record {
       named = names-by (claimedBy (rowAt s₁ top .generation) (s₁ .counts .submissions) k q) t refl (sym (generation-of-tag top (rowAt s₁ top .generation) small) ∙ ap generationOf (g .tag));
@@ -178,11 +178,11 @@ module _ (x : Start) (s : State) (sound : Sound s) (fixed : Fixed x s) (e : Even
     unfolding bytesAt accepted
     bytes-are = ap (λ (y : State). bytesAt y (q .buffer)) next-is ∙ then-is
 
-    pub opens : (card : Card) → (pages k ≡ false → (i : ℕ) → i < q .length → card (place m (q .offset .0 + i)) ≡ getD new i 0) → Open task (next s e) card 0
+    pub opens : (card : Card) → (pages k ≡ false → (i : ℕ) → i < q .length → card (place m (q .offset .0 + i)) ≡ getD new i 0) → Open task (next s e) card 0 0
     unfolding planOf
     opens card reads = record {
       sound = keeps-next keeps s e sound (host .count);
-      in-row = subst (λ (r : Row). InRow task r 0) (sym row-is) in-row;
+      in-row = subst (λ (r : Row). InRow task r 0 0) (sym row-is) in-row;
       settings-are = fixed-next x s e fixed .settings;
       plan-is = next-plans s e (q .handle);
       map-is = ap (λ (p : Plan). p .map) (next-plans s e (q .handle));

@@ -2,7 +2,7 @@
 -- stands behind that piece, or the operation completes.
 use mathlib.Core.Path.{_≡_, refl, sym, ap, _∙_, subst, subst₂}
 use mathlib.Core.Logic.{_≢_, _⊎_, inl, inr}
-use mathlib.Core.Bool.{Bool, true, false}
+use mathlib.Core.Bool.{Bool, true, false, _||_}
 use mathlib.Core.Option.{Option, none, some}
 use mathlib.Core.List.{List, [], _∷_, _++_}
 use Prim.Native.Nat.{ℕ, _+_, _-_, _≤_, _<_}
@@ -37,11 +37,11 @@ use Rattle.model.specs.State.{State, freed}
 use Rattle.model.specs.Opening.{Plan}
 use Rattle.step.specs.Questions.{regionAt}
 use Rattle.step.specs.Rules.{firstOf, pieceLength, isWhole, splitAfter, Input, Input.answered, Input.flushed, Fate, Fate.away, Fate.awaits, Fate.ends, answerRules, flushRules, flushEnds, flushOutcome, ticketOf, rules}
-use Rattle.step.specs.Step.{rowAt, rowOf, isLive, names, bytesAt, raised, awaitsNow, completionOf, planOf, going, freeing, settled, fateOf, underTag, eqLengths}
+use Rattle.step.specs.Step.{rowAt, rowOf, isLive, names, bytesAt, raised, awaitsNow, completionOf, poisonWith, planOf, going, freeing, settled, fateOf, underTag, eqLengths}
 use Rattle.step.specs.Sound.{Sound}
 use Rattle.step.specs.Laws.{Made, Made.calls, Made.looks, Event, leave, done, next, replyTo}
-use Rattle.step.specs.Lists.{brought, isAway, planAt, Completed, withBytes, addedBy, isBrought, takesWhole, wroteBy, tagIn, cardBy, HostMay}
-use Rattle.step.specs.Demand2.{WholeTo, TakenWhole, Undisturbed, WroteAs, WroteAs.by-flush}
+use Rattle.step.specs.Lists.{brought, isAway, planAt, leftIn, Given, givenAs, givenBy, Completed, withBytes, addedBy, isBrought, takesWhole, wroteBy, tagIn, cardBy, HostMay}
+use Rattle.step.specs.Demand2.{WholeTo, TakenWhole, Undisturbed, countOf, countGiven, resultOf, resultGiven, durablyTo, writtenTo}
 use Rattle.step.proofs.Picked.{by-pick}
 use Rattle.step.proofs.Away.{turned-away}
 use Rattle.step.proofs.AloneTags.{clash, live-in, names-live, names-generation, names-by}
@@ -121,28 +121,35 @@ module _ (s : State) (e : Event) (t : ℕ) (i : Input) (bt : brought t (e .made)
 abbrev pub Arrived : Task → Card → Type 0
 Arrived w card = (i : ℕ) → i < w .request .length → card (mappedTo w i) ≡ getD (w .new) i 0
 
-pub record Finished (w : Task) (c : Completion) : Type 0 where
+-- the completion, of the table s as it leaves it, by the flush count last given and the flush result, if there was one
+pub record Finished (w : Task) (s : State) (flushes : ℕ) (result : Option Flushed) (c : Completion) : Type 0 where
   pub buf : c .buf ≡ Back (w .request .buffer) (w .request .length)
   pub tag : c .tag ≡ w .request .tag
   pub outcome : pages (w .kind) ≡ false → c .outcome ≡ readTo (w .request .length)
-  pub wrote : pages (w .kind) ≡ true → WroteAs (w .opening) (w .plan) (w .kind) (w .request .durable) (c .outcome)
+  pub wrote : pages (w .kind) ≡ true → c .outcome ≡ writtenTo (w .opening) (s .poison) (w .request .durable) (ticketOf (w .opening) (w .plan) (w .kind) flushes) result
+  pub policy : pages (w .kind) ≡ true → w .request .durable ≡ true → result ≡ none → w .opening .flush || regionAt s (w .request .handle) .forced ≡ false
 
 -- what the operation gets of the event
 abbrev pub getsOf : State → Event → ℕ → ℕ → List Completed
 getsOf s e t b = pick (isBrought (brought t (e .made))) (withBytes (bytesAt (next s e) b) (addedBy s e)) []
 
-pub data Came (w : Task) (s : State) (card : Card) (e : Event) : Type 0 where
-  still : (d : ℕ) → Open w (next s e) (cardBy s e card) d → getsOf s e (w .tag) (w .request .buffer) ≡ [] → Came w s card e
-  over : names (rowAt (next s e) (rowOf (w .tag))) (w .tag) ≡ false → Arrived w (cardBy s e card) → (c : Completion) → Finished w c → getsOf s e (w .tag) (w .request .buffer) ≡ (c, w .new ++ w .tail) ∷ [] → Came w s card e
+-- what the event gives to the operation, with the flush count n last given before: another count is last given then, and no flush result
+abbrev Counts : ℕ → List Given → ℕ → Type 0
+Counts n now n′ = (gs : List Given) → (countGiven n (now ++ gs) ≡ countGiven n′ gs) × (resultGiven (now ++ gs) ≡ resultGiven gs)
 
-stage-live : (w : Task) (d : ℕ) (a : Awaits) → Stage w d a → isLive a ≡ true
+pub data Came (w : Task) (s : State) (card : Card) (n : ℕ) (e : Event) : Type 0 where
+  still : (d n′ : ℕ) → Open w (next s e) (cardBy s e card) d n′ → getsOf s e (w .tag) (w .request .buffer) ≡ [] → Counts n (givenBy s e (w .tag)) n′ → Came w s card n e
+  over : names (rowAt (next s e) (rowOf (w .tag))) (w .tag) ≡ false → Arrived w (cardBy s e card) → (c : Completion) (g : Given) → givenBy s e (w .tag) ≡ g ∷ []
+      → Finished w (next s e) (countGiven n (g ∷ [])) (resultGiven (g ∷ [])) c → getsOf s e (w .tag) (w .request .buffer) ≡ (c, w .new ++ w .tail) ∷ [] → Came w s card n e
+
+stage-live : (w : Task) (d c : ℕ) (a : Awaits) → Stage w d c a → isLive a ≡ true
 unfolding isLive
-stage-live w d a (piece e left) = ap isLive e
-stage-live w d a (flush t e page all long) = ap isLive e
+stage-live w d c a (piece e left) = ap isLive e
+stage-live w d c a (flush t e page all long) = ap isLive e
 
-stage-most : (w : Task) (d : ℕ) (a : Awaits) → Stage w d a → d ≤ w .request .length
-stage-most w d a (piece e left) = omega (arith, left)
-stage-most w d a (flush t e page all long) = omega (arith, all)
+stage-most : (w : Task) (d c : ℕ) (a : Awaits) → Stage w d c a → d ≤ w .request .length
+stage-most w d c a (piece e left) = omega (arith, left)
+stage-most w d c a (flush t e page all long) = omega (arith, all)
 
 on-card-most : (w : Task) (d i : ℕ) → d ≤ w .request .length → i < onCard w d → i < w .request .length
 on-card-most w d i most = by-pick (pages (w .kind)) (λ (n : ℕ). i < n → i < w .request .length) (λ page lt. omega (arith, most, lt)) (λ reads lt. lt)
@@ -152,12 +159,12 @@ pub on-card-all : (w : Task) (d i : ℕ) → d ≡ w .request .length → i < w 
 on-card-all w d i all lt = by-pick (pages (w .kind)) (λ (n : ℕ). i < n) (λ page. omega (arith, all, lt)) (λ reads. lt)
 
 -- the ticket with which a write awaits its flush
-its-ticket : (w : Task) (flushes : ℕ) → w .request .durable ≡ true → ItsTicket w (ticketOf (w .opening) (w .plan) (w .kind) flushes)
+its-ticket : (w : Task) (flushes : ℕ) → w .request .durable ≡ true → ItsTicket w flushes (ticketOf (w .opening) (w .plan) (w .kind) flushes)
 unfolding ticketOf
 its-ticket w flushes durable =
     let a : firstOf (w .kind) .0 ≡ w .request .offset .0 = ap (λ (p : Position). p .0) (w .first) in
     let z = w .last in
-    record { long = omega (arith, a, z); flushes = flushes; is = refl; durable = durable }
+    record { long = omega (arith, a, z); is = refl; durable = durable }
 
 -- what a whole piece writes, of a write and of a read
 wrote-page : (g : Plan) (k : Kind) (sp : Split) (bytes : List ℕ) (x : Answer) (back : Bool) (flushes : ℕ) (card : Card) → pages k ≡ true → isWhole (pieceLength g k sp) x ≡ true
@@ -171,7 +178,7 @@ unfolding wroteBy pages
 wrote-read g (Page a b) sp bytes v card reads = absurd (not-both refl reads)
 wrote-read g (Read a b) sp bytes v card reads = refl
 
-module _ (w : Task) (s : State) (card : Card) (d : ℕ) (o : Open w s card d) (e : Event) (host : HostMay s (e .leaves)) (taken : TakenWhole s e (w .tag) card) (alone : Undisturbed s (w .tag) (w .request)) where
+module _ (w : Task) (s : State) (card : Card) (d given : ℕ) (o : Open w s card d given) (e : Event) (host : HostMay s (e .leaves)) (taken : TakenWhole s e (w .tag) card) (alone : Undisturbed s (w .tag) (w .request)) where
   abbrev t : ℕ
   t = w .tag
 
@@ -218,22 +225,26 @@ module _ (w : Task) (s : State) (card : Card) (d : ℕ) (o : Open w s card d) (e
   bytes-left : drop (hostsOf w d) (bytesAt left b) ≡ drop (hostsOf w d) (lies d)
   unfolding bytesAt leave
   bytes-left =
-      (λ j. drop (sym (loose-is w s r (o .in-row .handle) (o .map-is) d (o .in-row .stage)) j) (bytesAt left (sym (o .in-row .buffer) j)))
+      (λ j. drop (sym (loose-is w s r (o .in-row .handle) (o .map-is) d given (o .in-row .stage)) j) (bytesAt left (sym (o .in-row .buffer) j)))
       ∙ left-alike s (o .sound) (e .leaves) host (rowOf t) live
-      ∙ (λ j. drop (loose-is w s r (o .in-row .handle) (o .map-is) d (o .in-row .stage) j) (bytesAt s (o .in-row .buffer j)))
+      ∙ (λ j. drop (loose-is w s r (o .in-row .handle) (o .map-is) d given (o .in-row .stage) j) (bytesAt s (o .in-row .buffer j)))
       ∙ o .bytes
+
+  -- nothing is given
+  nothing-given : (now : List Given) → now ≡ [] → Counts given now given
+  nothing-given now q gs = (ap (λ (l : List Given). countGiven given (l ++ gs)) q, ap (λ (l : List Given). resultGiven (l ++ gs)) q)
 
   -- ---- the operation stays as it stands
 
-  stays : rowAt (next s e) (rowOf t) ≡ r → bytesAt (next s e) b ≡ bytesAt left b → ((i : ℕ) → i < w .request .length → cardBy s e card (mappedTo w i) ≡ card (mappedTo w i)) → Open w (next s e) (cardBy s e card) d
+  stays : rowAt (next s e) (rowOf t) ≡ r → bytesAt (next s e) b ≡ bytesAt left b → ((i : ℕ) → i < w .request .length → cardBy s e card (mappedTo w i) ≡ card (mappedTo w i)) → Open w (next s e) (cardBy s e card) d given
   stays row bytes same = record {
     sound = sound-next;
-    in-row = subst (λ (x : Row). InRow w x d) (sym row) (o .in-row);
+    in-row = subst (λ (x : Row). InRow w x d given) (sym row) (o .in-row);
     settings-are = settings-next;
     plan-is = plan-next;
     map-is = map-next;
     bytes = ap (drop (hostsOf w d)) bytes ∙ bytes-left;
-    card-is = λ i lt. same i (on-card-most w d i (stage-most w d (r .awaits) (o .in-row .stage)) lt) ∙ o .card-is i lt;
+    card-is = λ i lt. same i (on-card-most w d i (stage-most w d given (r .awaits) (o .in-row .stage)) lt) ∙ o .card-is i lt;
   }
 
   -- an event for another
@@ -274,9 +285,11 @@ module _ (w : Task) (s : State) (card : Card) (d : ℕ) (o : Open w s card d) (e
     unfolding next rowAt leave
     other-kept = done-row left sound-left t (o .in-row .named) (e .lengths) (e .made) bt
 
-    pub came-other : Came w s card e
-    unfolding isBrought pick
-    came-other = still d (stays other-kept other-bytes other-card) (ap (λ (v : Option Input). pick (isBrought v) (withBytes (bytesAt (next s e) b) (addedBy s e)) []) bt)
+    pub came-other : Came w s card given e
+    unfolding isBrought pick givenBy givenAs
+    came-other =
+        still d given (stays other-kept other-bytes other-card) (ap (λ (v : Option Input). pick (isBrought v) (withBytes (bytesAt (next s e) b) (addedBy s e)) []) bt)
+        (nothing-given (givenBy s e t) (ap (λ (v : Option Input). givenAs v (isAway (replyTo s e)) (leftIn left r)) bt))
 
   -- ---- an event for it
 
@@ -290,15 +303,21 @@ module _ (w : Task) (s : State) (card : Card) (d : ℕ) (o : Open w s card d) (e
     unfolding withBytes addedBy
     gets-none q = gets-with [] (ap (drop (length (s .ready))) q ∙ drop-length (s .ready)) (bytesAt (next s e) b) refl
 
-    pub came-away : isAway (replyTo s e) ≡ true → Came w s card e
-    unfolding rowAt leave
+    pub came-away : isAway (replyTo s e) ≡ true → Came w s card given e
+    unfolding rowAt leave givenBy givenAs pick
     came-away gone =
         let same = away-same s e gone in
-        still d (stays (ap (λ (z : State). rowAt z (rowOf t)) same) (ap (λ (z : State). bytesAt z b) same) (λ j lt. ap (λ (after : Card). after (mappedTo w j)) (away-card s e card gone))) (gets-none (ap (λ (z : State). z .ready) same))
+        still d given (stays (ap (λ (z : State). rowAt z (rowOf t)) same) (ap (λ (z : State). bytesAt z b) same) (λ j lt. ap (λ (after : Card). after (mappedTo w j)) (away-card s e card gone))) (gets-none (ap (λ (z : State). z .ready) same))
+        (nothing-given (givenBy s e t) ((λ j. givenAs (bt j) (gone j) (leftIn left r))))
 
     module _ (heard : isAway (replyTo s e) ≡ false) where
       abbrev f : Fate
       f = fateOf left r i
+
+      -- what is given
+      given-is : givenBy s e t ≡ (i, leftIn left r) ∷ []
+      unfolding givenBy givenAs pick
+      given-is = λ j. givenAs (bt j) (heard j) (leftIn left r)
 
       next-is : (g : Fate) → f ≡ g → next s e ≡ settled left t r g .0
       unfolding next
@@ -330,22 +349,22 @@ module _ (w : Task) (s : State) (card : Card) (d : ℕ) (o : Open w s card d) (e
       fits g q = subst (FateFits left r) q (fate-fits left r i)
 
       -- it goes on
-      goes-on : (a : Awaits) (bytes : List ℕ) (d′ : ℕ) → f ≡ awaits a bytes → Stage w d′ a → drop (hostsOf w d′) bytes ≡ drop (hostsOf w d′) (lies d′)
-          → ((j : ℕ) → j < onCard w d′ → cardBy s e card (mappedTo w j) ≡ getD (w .new) j 0) → Came w s card e
+      goes-on : (a : Awaits) (bytes : List ℕ) (d′ n′ : ℕ) → f ≡ awaits a bytes → Counts given ((i, leftIn left r) ∷ []) n′ → Stage w d′ n′ a → drop (hostsOf w d′) bytes ≡ drop (hostsOf w d′) (lies d′)
+          → ((j : ℕ) → j < onCard w d′ → cardBy s e card (mappedTo w j) ≡ getD (w .new) j 0) → Came w s card given e
       unfolding settled going Fitting awaitsNow leave
-      goes-on a bytes d′ q stage held same =
+      goes-on a bytes d′ n′ q counts stage held same =
           let z = next-is (awaits a bytes) q in
           let to = going left (rowOf t) r a bytes in
           let ch : Changed left to (rowOf t) (r .buffer) (awaitsNow r a) bytes = record { settings = refl; regions = refl; rows = refl; pool = refl } in
           let long : length bytes ≡ left .settings .capacity = fits (awaits a bytes) q .1 ∙ bytes-length left sound-left (r .buffer) in-pool in
           let row : rowAt (next s e) (rowOf t) ≡ awaitsNow r a = ap (λ (y : State). rowAt y (rowOf t)) z ∙ row-here left to (rowOf t) (r .buffer) (awaitsNow r a) bytes ch in-rows in
           let there : bytesAt (next s e) b ≡ bytes = (λ j. bytesAt (z j) (sym (o .in-row .buffer) j)) ∙ bytes-here left to (rowOf t) (r .buffer) (awaitsNow r a) bytes ch sound-left in-pool long in
-          still d′
+          still d′ n′
           (record {
             sound = sound-next;
-            in-row = subst (λ (x : Row). InRow w x d′) (sym row)
+            in-row = subst (λ (x : Row). InRow w x d′ n′) (sym row)
                 (record {
-                  named = names-by (awaitsNow r a) t (stage-live w d′ a stage) (names-generation r t (o .in-row .named));
+                  named = names-by (awaitsNow r a) t (stage-live w d′ n′ a stage) (names-generation r t (o .in-row .named));
                   handle = o .in-row .handle;
                   buffer = o .in-row .buffer;
                   tag = o .in-row .tag;
@@ -359,13 +378,15 @@ module _ (w : Task) (s : State) (card : Card) (d : ℕ) (o : Open w s card d) (e
             card-is = same;
           })
           (gets-none (ap (λ (y : State). y .ready) z))
+          (subst (λ (l : List Given). Counts given l n′) (sym given-is) counts)
 
       -- it completes
       ends-with : (x : Outcome) (n : ℕ) (bytes : List ℕ) → f ≡ ends x (Back (r .buffer) n) bytes none → n ≡ w .request .length → bytes ≡ w .new ++ w .tail
-          → (pages (w .kind) ≡ false → x ≡ readTo (w .request .length)) → (pages (w .kind) ≡ true → WroteAs (w .opening) (w .plan) (w .kind) (w .request .durable) x)
-          → Arrived w (cardBy s e card) → Came w s card e
-      unfolding settled freeing Fitting completionOf withBytes addedBy names leave
-      ends-with x n bytes q all new outcome wrote arrived =
+          → (pages (w .kind) ≡ false → x ≡ readTo (w .request .length)) → (pages (w .kind) ≡ true → x ≡ writtenTo (w .opening) (s .poison) (w .request .durable) (ticketOf (w .opening) (w .plan) (w .kind) (countGiven given ((i, leftIn left r) ∷ []))) (resultGiven ((i, leftIn left r) ∷ [])))
+          → (pages (w .kind) ≡ true → w .request .durable ≡ true → resultGiven ((i, leftIn left r) ∷ []) ≡ none → w .opening .flush || regionAt s (w .request .handle) .forced ≡ false)
+          → Arrived w (cardBy s e card) → Came w s card given e
+      unfolding settled freeing Fitting completionOf withBytes addedBy names leave poisonWith regionAt
+      ends-with x n bytes q all new outcome wrote policy arrived =
           let to = settled left t r (ends x (Back (r .buffer) n) bytes none) .0 in
           let z = next-is (ends x (Back (r .buffer) n) bytes none) q in
           let gone = freed (raised (r .generation)) in
@@ -374,8 +395,8 @@ module _ (w : Task) (s : State) (card : Card) (d : ℕ) (o : Open w s card d) (e
           let long : length bytes ≡ left .settings .capacity = fits (ends x (Back (r .buffer) n) bytes none) q .1 ∙ bytes-length left sound-left (r .buffer) in-pool in
           let row : rowAt (next s e) (rowOf t) ≡ gone = ap (λ (y : State). rowAt y (rowOf t)) z ∙ row-here left to (rowOf t) (r .buffer) gone bytes ch in-rows in
           let there : bytesAt (next s e) b ≡ bytes = (λ j. bytesAt (z j) (sym (o .in-row .buffer) j)) ∙ bytes-here left to (rowOf t) (r .buffer) gone bytes ch sound-left in-pool long in
-          over (ap (λ (y : Row). names y t) row ∙ freed-unnamed (raised (r .generation))) arrived c
-          (record { buf = (λ j. Back (o .in-row .buffer j) (all j)); tag = o .in-row .tag; outcome = outcome; wrote = wrote })
+          over (ap (λ (y : Row). names y t) row ∙ freed-unnamed (raised (r .generation))) arrived c (i, leftIn left r) given-is
+          (record { buf = (λ j. Back (o .in-row .buffer j) (all j)); tag = o .in-row .tag; outcome = outcome; wrote = λ page. wrote page ∙ (λ j. writtenTo (w .opening) (sym z j .poison) (w .request .durable) (ticketOf (w .opening) (w .plan) (w .kind) (countGiven given ((i, leftIn left r) ∷ []))) (resultGiven ((i, leftIn left r) ∷ []))); policy = λ page durable none. ap (λ (y : State). w .opening .flush || regionAt y (w .request .handle) .forced) z ∙ policy page durable none })
           (gets-with (c ∷ []) (ap (λ (y : State). drop (length (s .ready)) (y .ready)) z ∙ drop-append-seam (s .ready) (c ∷ [])) (w .new ++ w .tail) (there ∙ new))
         where
           freed-unnamed : (g : ℕ) → names (freed g) t ≡ false
@@ -396,9 +417,9 @@ module _ (w : Task) (s : State) (card : Card) (d : ℕ) (o : Open w s card d) (e
 
         new-is : (take n bytes ≡ take n (drop d (w .new))) × (drop n bytes ≡ drop n (lies d))
         unfolding TakenWhole
-        new-is = is-new w left r d (o .in-row) map-left at more card bytes-left (o .card-is) (taken i bt heard .1)
+        new-is = is-new w left r d given (o .in-row) map-left at more card bytes-left (o .card-is) (taken i bt heard .1)
 
-        its-whole : Whole (w .opening) (w .plan) r (w .kind) (splitOf w d) n bytes f
+        its-whole : Whole (w .opening) (w .plan) (regionAt s (w .request .handle) .forced) (s .poison) flushes r (w .kind) (splitOf w d) n bytes f
         unfolding fateOf rules answerRules planAt regionAt leave
         its-whole =
             let g = planAt s r in
@@ -407,10 +428,24 @@ module _ (w : Task) (s : State) (card : Card) (d : ℕ) (o : Open w s card d) (e
             let fate : f ≡ answerRules (s .settings) g forced (s .poison) r now x back flushes (Piece (w .kind) (splitOf w d)) =
             ap (fateOf left r) is ∙ ap (answerRules (s .settings) g forced (s .poison) r now x back flushes) at in
             let its : g ≡ w .plan = ap (λ (h : ℕ). planOf (regionAt s h)) (o .in-row .handle) ∙ o .plan-is in
-            subst₂ (λ (so : Opening) (p : Plan). Whole so p r (w .kind) (splitOf w d) n bytes f) (o .settings-are) its
-            (subst₂ (λ (m : ℕ) (l : List ℕ). Whole (s .settings) g r (w .kind) (splitOf w d) m l f) (piece-size w s r (o .in-row .handle) (o .map-is) d) (ap (bytesAt left) (o .in-row .buffer))
-            (subst (Whole (s .settings) g r (w .kind) (splitOf w d) (pieceLength g (w .kind) (splitOf w d)) now) (sym fate)
-            (answer-whole (s .settings) g forced (s .poison) r (splitOf w d) now (w .kind) x back flushes more (is-whole .0) (is-whole .1))))
+            subst₂ (λ (so : Opening) (p : Plan). Whole so p (regionAt s (w .request .handle) .forced) (s .poison) flushes r (w .kind) (splitOf w d) n bytes f) (o .settings-are) its
+            (subst (λ (h : ℕ). Whole (s .settings) g (regionAt s h .forced) (s .poison) flushes r (w .kind) (splitOf w d) n bytes f) (o .in-row .handle)
+            (subst₂ (λ (m : ℕ) (l : List ℕ). Whole (s .settings) g forced (s .poison) flushes r (w .kind) (splitOf w d) m l f) (piece-size w s r (o .in-row .handle) (o .map-is) d) (ap (bytesAt left) (o .in-row .buffer))
+            (subst (Whole (s .settings) g forced (s .poison) flushes r (w .kind) (splitOf w d) (pieceLength g (w .kind) (splitOf w d)) now) (sym fate)
+            (answer-whole (s .settings) g forced (s .poison) r (splitOf w d) now (w .kind) x back flushes more (is-whole .0) (is-whole .1)))))
+
+        -- what is given is this answer
+        one-count : Counts given ((i, leftIn left r) ∷ []) flushes
+        unfolding countGiven countOf resultGiven resultOf
+        one-count gs = (ap (λ (v : Input). countGiven (countOf v given) gs) is, ap (λ (v : Input). resultOf v (resultGiven gs)) is)
+
+        one-last : countGiven given ((i, leftIn left r) ∷ []) ≡ flushes
+        unfolding countGiven countOf
+        one-last = ap (λ (v : Input). countOf v given) is
+
+        one-result : resultGiven ((i, leftIn left r) ∷ []) ≡ none
+        unfolding resultGiven resultOf
+        one-result = ap (λ (v : Input). resultOf v none) is
 
         -- on the card
         card-after : (j : ℕ) → j < onCard w (d + n) → cardBy s e card (mappedTo w j) ≡ getD (w .new) j 0
@@ -433,13 +468,13 @@ module _ (w : Task) (s : State) (card : Card) (d : ℕ) (o : Open w s card d) (e
                 ap (λ (after : Card). after (mappedTo w j)) (came-to ∙ wrote-read (planAt s r) (w .kind) (splitOf w d) (bytesAt left b) (some (answered x back flushes)) card reads)
                 ∙ o .card-is j (rw reads (rw reads at lt))
 
-        came-whole : Whole (w .opening) (w .plan) r (w .kind) (splitOf w d) n bytes f → Came w s card e
+        came-whole : Whole (w .opening) (w .plan) (regionAt s (w .request .handle) .forced) (s .poison) flushes r (w .kind) (splitOf w d) n bytes f → Came w s card given e
         unfolding splitAfter pick
         came-whole (next-piece lt q) =
-            goes-on _ _ (d + n) q (piece refl lt)
+            goes-on _ _ (d + n) flushes q one-count (piece refl lt)
             (ap (drop (hostsOf w (d + n))) (turned-on (w .new) (w .old) (w .tail) (w .request .length) (w .long-new) (w .long-old) d n (piece-ends w d more) bytes (new-is .0) (new-is .1))) card-after
-        came-whole (its-flush page durable all given q) =
-            goes-on _ _ (w .request .length) q (flush _ refl page refl (its-ticket w given (sym (o .in-row .durable page) ∙ durable)))
+        came-whole (its-flush page durable all q) =
+            goes-on _ _ (w .request .length) flushes q one-count (flush _ refl page refl (its-ticket w flushes (sym (o .in-row .durable page) ∙ durable)))
             (ap (drop (hostsOf w (w .request .length)))
             (turned-last (w .new) (w .old) (w .tail) (w .request .length) (w .long-new) (w .long-old) d n (piece-ends w d more) bytes (new-is .0) (new-is .1) all
             ∙ sym (lying-last (w .new) (w .old) (w .tail) (w .request .length) (w .long-new) (w .long-old))))
@@ -447,28 +482,32 @@ module _ (w : Task) (s : State) (card : Card) (d : ℕ) (o : Open w s card d) (e
         came-whole (completes all y outcome wrote q) =
             ends-with y (w .request .length) _ q refl
             (turned-last (w .new) (w .old) (w .tail) (w .request .length) (w .long-new) (w .long-old) d n (piece-ends w d more) bytes (new-is .0) (new-is .1) all) outcome
-            (λ page. subst (λ (durable : Bool). WroteAs (w .opening) (w .plan) (w .kind) durable y) (o .in-row .durable page) (wrote page))
+            (λ page. wrote page .outcome ∙ (λ j. writtenTo (w .opening) (s .poison) (o .in-row .durable page j) (ticketOf (w .opening) (w .plan) (w .kind) (sym one-last j)) (sym one-result j)))
+            (λ page durable z. wrote page .policy (o .in-row .durable page ∙ durable))
             (λ j lt. card-after j (on-card-all w (d + n) j all lt))
 
-        came-piece : Came w s card e
+        came-piece : Came w s card given e
         came-piece = came-whole its-whole
 
       -- ---- a flush result
 
-      module _ (tk : WriteTicket) (at : r .awaits ≡ Flush tk) (page : pages (w .kind) ≡ true) (all : d ≡ w .request .length) (its : ItsTicket w tk) (result : Flushed) (is : i ≡ flushed result) where
-        came-flush : Came w s card e
-        unfolding fateOf rules flushRules flushEnds wroteBy pick leave
+      module _ (tk : WriteTicket) (at : r .awaits ≡ Flush tk) (page : pages (w .kind) ≡ true) (all : d ≡ w .request .length) (its : ItsTicket w given tk) (result : Flushed) (is : i ≡ flushed result) where
+        came-flush : Came w s card given e
+        unfolding fateOf rules flushRules flushEnds wroteBy pick leave countGiven countOf resultGiven resultOf durablyTo writtenTo
         came-flush =
             let held : bytesAt left b ≡ lies d = rw page at bytes-left in
             ends-with (flushOutcome (left .settings) tk result) (tk .end .0 - tk .start .0) (bytesAt left (r .buffer))
             (ap (fateOf left r) is ∙ ap (flushRules (left .settings) r (bytesAt left (r .buffer)) result) at) (its .long)
             (ap (bytesAt left) (o .in-row .buffer) ∙ held ∙ ap lies all ∙ lying-last (w .new) (w .old) (w .tail) (w .request .length) (w .long-new) (w .long-old))
             (λ reads. absurd (not-both page reads))
-            (λ writes. by-flush (its .durable) (its .flushes) result (λ j. flushOutcome (o .settings-are j) (its .is j) result))
+            (λ writes.
+            (λ j. flushOutcome (o .settings-are j) (its .is j) result)
+            ∙ (λ j. writtenTo (w .opening) (s .poison) (sym (its .durable) j) (ticketOf (w .opening) (w .plan) (w .kind) (countOf (sym is j) given)) (resultOf (sym is j) none)))
+            (λ writes durable z. clash (let y : some result ≡ none = sym (ap (λ (v : Input). resultOf v none) is) ∙ z in cc))
             (λ j lt. ap (λ (after : Card). after (mappedTo w j)) (card-own ∙ ap (λ (a : Awaits). wroteBy (planAt s r) a (bytesAt left (r .buffer)) (some i) card) at)
             ∙ o .card-is j (on-card-all w d j all lt))
 
-      came-heard : Stage w d (r .awaits) → (v : Input) → i ≡ v → Came w s card e
+      came-heard : Stage w d given (r .awaits) → (v : Input) → i ≡ v → Came w s card given e
       unfolding fateOf rules answerRules flushRules
       came-heard (piece at more) (answered x back flushes) is = came-piece at more x back flushes is
       came-heard (piece at more) (flushed result) is = absurd (not-away NotAwaited (ap (fateOf left r) is ∙ ap (flushRules (left .settings) r (bytesAt left (r .buffer)) result) at))
@@ -476,13 +515,13 @@ module _ (w : Task) (s : State) (card : Card) (d : ℕ) (o : Open w s card d) (e
           absurd (not-away NotAwaited (ap (fateOf left r) is ∙ ap (answerRules (left .settings) (planOf (regionAt left (r .handle))) (regionAt left (r .handle) .forced) (left .poison) r (bytesAt left (r .buffer)) x back flushes) at))
       came-heard (flush tk at page all long) (flushed result) is = came-flush tk at page all long result is
 
-    came-own : (b : Bool) → isAway (replyTo s e) ≡ b → Came w s card e
+    came-own : (b : Bool) → isAway (replyTo s e) ≡ b → Came w s card given e
     came-own true gone = came-away gone
     came-own false heard = came-heard heard (o .in-row .stage) i refl
 
-  pub came : Came w s card e
+  pub came : Came w s card given e
   came = by-brought (brought t (e .made)) refl
     where
-      by-brought : (v : Option Input) → brought t (e .made) ≡ v → Came w s card e
+      by-brought : (v : Option Input) → brought t (e .made) ≡ v → Came w s card given e
       by-brought none q = came-other q
       by-brought (some i) q = came-own i q (isAway (replyTo s e)) refl

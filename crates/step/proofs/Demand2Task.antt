@@ -77,30 +77,29 @@ onCard w d = pick (pages (w .kind)) d (w .request .length)
 
 -- ---- in a row
 
--- the ticket of a write that awaits its flush
-pub record ItsTicket (w : Task) (t : WriteTicket) : Type 0 where
+-- the ticket of a write that awaits its flush, by the flush count of its last answer
+pub record ItsTicket (w : Task) (flushes : ℕ) (t : WriteTicket) : Type 0 where
   pub long : t .end .0 - t .start .0 ≡ w .request .length
-  pub flushes : ℕ
   pub is : t ≡ ticketOf (w .opening) (w .plan) (w .kind) flushes
   pub durable : w .request .durable ≡ true
 
-pub data Stage (w : Task) (d : ℕ) (a : Awaits) : Type 0 where
-  piece : a ≡ Piece (w .kind) (splitOf w d) → d < w .request .length → Stage w d a
-  flush : (t : WriteTicket) → a ≡ Flush t → pages (w .kind) ≡ true → d ≡ w .request .length → ItsTicket w t → Stage w d a
+pub data Stage (w : Task) (d n : ℕ) (a : Awaits) : Type 0 where
+  piece : a ≡ Piece (w .kind) (splitOf w d) → d < w .request .length → Stage w d n a
+  flush : (t : WriteTicket) → a ≡ Flush t → pages (w .kind) ≡ true → d ≡ w .request .length → ItsTicket w n t → Stage w d n a
 
-pub record InRow (w : Task) (r : Row) (d : ℕ) : Type 0 where
+pub record InRow (w : Task) (r : Row) (d n : ℕ) : Type 0 where
   pub named : names r (w .tag) ≡ true
   pub handle : r .handle ≡ w .request .handle
   pub buffer : r .buffer ≡ w .request .buffer
   pub tag : r .tag ≡ w .request .tag
   pub durable : pages (w .kind) ≡ true → r .durable ≡ w .request .durable
-  pub stage : Stage w d (r .awaits)
+  pub stage : Stage w d n (r .awaits)
 
 -- ---- in a table
 
-pub record Open (w : Task) (s : State) (card : Card) (d : ℕ) : Type 0 where
+pub record Open (w : Task) (s : State) (card : Card) (d n : ℕ) : Type 0 where
   pub sound : Sound s
-  pub in-row : InRow w (rowAt s (rowOf (w .tag))) d
+  pub in-row : InRow w (rowAt s (rowOf (w .tag))) d n
   pub settings-are : s .settings ≡ w .opening
   pub plan-is : planOf (regionAt s (w .request .handle)) ≡ w .plan
   pub map-is : regionAt s (w .request .handle) .map ≡ w .map
@@ -131,10 +130,10 @@ module _ (w : Task) (s : State) (r : Row) (handle : r .handle ≡ w .request .ha
   unfolding pieceLength pieceOf
   piece-size d = λ j. pieceSize (plan-map j) (w .first j .0 + d) (w .request .length - d)
 
-  pub loose-is : (d : ℕ) → Stage w d (r .awaits) → loose (planAt s r) (r .awaits) ≡ hostsOf w d
+  pub loose-is : (d c : ℕ) → Stage w d c (r .awaits) → loose (planAt s r) (r .awaits) ≡ hostsOf w d
   unfolding loose pick pages
-  loose-is d (flush t e page all ends) = ap (loose (planAt s r)) e ∙ ap (λ (b : Bool). pick b 0 (sizeOf w d)) (sym page)
-  loose-is d (piece e left) = ap (loose (planAt s r)) e ∙ by-kind (w .kind) refl
+  loose-is d c (flush t e page all ends) = ap (loose (planAt s r)) e ∙ ap (λ (b : Bool). pick b 0 (sizeOf w d)) (sym page)
+  loose-is d c (piece e left) = ap (loose (planAt s r)) e ∙ by-kind (w .kind) refl
     where
       by-kind : (k : Kind) → w .kind ≡ k → loose (planAt s r) (Piece (w .kind) (splitOf w d)) ≡ hostsOf w d
       by-kind (Page a b) q = ap (λ (k : Kind). loose (planAt s r) (Piece k (splitOf w d))) q ∙ ap (λ (k : Kind). pick (pages k) 0 (sizeOf w d)) (sym q)
@@ -145,7 +144,7 @@ module _ (w : Task) (s : State) (r : Row) (handle : r .handle ≡ w .request .ha
 
 -- ---- the bytes of a piece that is taken whole are the new ones
 
-module _ (w : Task) (s : State) (r : Row) (d : ℕ) (o : InRow w r d) (map-is : regionAt s (w .request .handle) .map ≡ w .map) (at : r .awaits ≡ Piece (w .kind) (splitOf w d)) (left : d < w .request .length) (card : Card)
+module _ (w : Task) (s : State) (r : Row) (d c : ℕ) (o : InRow w r d c) (map-is : regionAt s (w .request .handle) .map ≡ w .map) (at : r .awaits ≡ Piece (w .kind) (splitOf w d)) (left : d < w .request .length) (card : Card)
     (held : drop (hostsOf w d) (bytesAt s (w .request .buffer)) ≡ drop (hostsOf w d) (lying (w .new) (w .old) (w .tail) d)) (same : (i : ℕ) → i < onCard w d → card (mappedTo w i) ≡ getD (w .new) i 0)
     (holds : HoldsCard s r (r .awaits) card) where
   abbrev bytes : List ℕ
@@ -168,7 +167,7 @@ module _ (w : Task) (s : State) (r : Row) (d : ℕ) (o : InRow w r d) (map-is : 
   read-new reads came =
       let host : hostsOf w d ≡ n = ap (λ (b : Bool). pick b 0 n) reads in
       let whole : onCard w d ≡ w .request .length = ap (λ (b : Bool). pick b d (w .request .length)) reads in
-      let here : leftIn s r ≡ take n bytes = (λ j. take ((loose-is w s r (o .handle) map-is d (o .stage) ∙ host) j) (bytesAt s (o .buffer j))) in
+      let here : leftIn s r ≡ take n bytes = (λ j. take ((loose-is w s r (o .handle) map-is d c (o .stage) ∙ host) j) (bytesAt s (o .buffer j))) in
       let there : pread card (place (planAt s r .map) (firstOf (w .kind) .0 + d)) (pieceLength (planAt s r) (w .kind) (splitOf w d)) ≡ pread card (mappedTo w d) n =
       (λ j. pread card (piece-place w s r (o .handle) map-is d j) (piece-size w s r (o .handle) map-is d j)) in
       let ends = piece-ends w d left in

@@ -1,19 +1,21 @@
 -- Demand 2, by POSIX: from any table that calls have left, "the pieces of an accepted page operation, each taken whole with its buffer back and no other
--- operation writing its bytes meanwhile, act together like one transfer of every byte to or from its mapped card offset, and touch no other byte of card or
--- pool". Stated over the table's own replies, rows and pool, with any other calls in between. Proved in proofs/Demand2.antt (demand2).
+-- operation writing its bytes meanwhile, act together like one transfer of every byte to or from its mapped card offset, and touch no other byte".
+-- Stated over the table's own rows and pool (a reply asks for what the row awaits: Asked), with any other calls in between. Proved in proofs/Demand2.antt (demand2).
 use mathlib.Core.Path.{_≡_}
 use mathlib.Core.Logic.{_≢_}
-use mathlib.Core.Bool.{Bool, true, false}
-use mathlib.Core.Option.{some}
+use mathlib.Core.Bool.{Bool, true, false, _||_}
+use mathlib.Core.Option.{Option, none, some}
 use mathlib.Core.List.{List, [], _∷_, _++_}
 use Prim.Native.Nat.{ℕ, _+_, _<_}
 use lib.ListN.{getD, drop}
+use Rattle.layout.specs.Pick.{pick}
 use Rattle.regionmap.specs.Map.{place}
 use Rattle.iobuf.specs.Turn.{stretch}
 use Rattle.posix.specs.Posix.{Card, pread}
 use Rattle.transfer.specs.Transfer.{gathered}
 use Rattle.domain.specs.declared.Poisoned.{Poisoned}
 use Rattle.platform.specs.declared.Flushed.{Flushed}
+use Rattle.completion.specs.declared.WriteTicket.{WriteTicket}
 use Rattle.completion.specs.declared.Outcome.{Outcome}
 use Rattle.completion.specs.declared.Outcome.the-variants.{Written, Read as readTo}
 use Rattle.completion.specs.declared.Buffer.the-variants.{Back}
@@ -27,13 +29,12 @@ use Rattle.model.specs.declared.Row.{Row}
 use Rattle.model.specs.declared.Request.{Request}
 use Rattle.model.specs.declared.Call.the-variants.{Write, ReadPage}
 use Rattle.model.specs.State.{State}
-use Rattle.model.specs.Opening.{Plan}
 use Rattle.step.specs.Questions.{regionAt}
 use Rattle.step.specs.Rules.{pieceLength, isWhole, Input, Input.answered, Input.flushed, ticketOf, unflushed, flushOutcome}
 use Rattle.step.specs.Step.{startOf, endOf, rowOf, rowAt, bytesAt, planOf, names, writesIn}
 use Rattle.step.specs.Sound.{Sound}
 use Rattle.step.specs.Laws.{Made, Made.calls, Event, leave, next, run, replyTo}
-use Rattle.step.specs.Lists.{brought, isAway, planAt, leftIn, tagIn, gets, cardBy, cardAfter, Hosted, HostMay}
+use Rattle.step.specs.Lists.{brought, isAway, planAt, leftIn, Given, given, tagIn, Completed, gets, cardBy, cardAfter, Hosted, HostMay}
 use Rattle.step.specs.Alone.{tagGiven}
 use Rattle.step.specs.Demand3.{Start, openedBy, after, Mapped}
 
@@ -84,28 +85,6 @@ bufferThen x e q = stretch (x .opening .capacity) (q .buffer) (e .leaves)
 abbrev pub begun : Start → List Event → Event → State
 begun x h e = next (after x h) e
 
--- what a write comes to whose pieces were all taken whole, with the ticket of its own range: "Plain ends there"; "Durable, with the flush policy or a forced
--- region", as its flush result says, and "without either" Poisoned or a receipt of need 2^64 − 1. A piece's answer does not end it DurabilityUnknown.
-pub data WroteAs (o : Opening) (g : Plan) (k : Kind) (durable : Bool) (outcome : Outcome) : Type 0 where
-  plain : durable ≡ false → (flushes : ℕ) → outcome ≡ Written (ticketOf o g k flushes) → WroteAs o g k durable outcome
-  without-flush : durable ≡ true → (flushes : ℕ) (first : Poisoned) → outcome ≡ unflushed o first (ticketOf o g k flushes) → WroteAs o g k durable outcome
-  by-flush : durable ≡ true → (flushes : ℕ) (result : Flushed) → outcome ≡ flushOutcome o (ticketOf o g k flushes) result → WroteAs o g k durable outcome
-
--- what the operation's completion says, and its buffer as completed
-pub record Wrote (x : Start) (h : List Event) (e : Event) (t : ℕ) (q : Request) (card : Card) (es : List Event) : Type 0 where
-  -- every byte has arrived at its mapped card offset
-  pub arrived : (i : ℕ) → i < q .length → cardAfter (begun x h e) es card (place (regionAt (after x h) (q .handle) .map) (q .offset .0 + i)) ≡ getD (bufferThen x e q) i 0
-  -- the buffer, as completed, holds what it held at acceptance
-  pub buffer : (c : Completion) (bytes : List ℕ) (more : List (Completion × List ℕ)) → gets (begun x h e) es t (q .buffer) ≡ (c, bytes) ∷ more
-      → (bytes ≡ bufferThen x e q) × (c .buf ≡ Back (q .buffer) (q .length)) × (c .tag ≡ q .tag)
-      × WroteAs (x .opening) (planOf (regionAt (after x h) (q .handle))) (Page (startOf q) (endOf q)) (q .durable) (c .outcome)
-
-pub record DidRead (x : Start) (h : List Event) (e : Event) (t : ℕ) (q : Request) (card : Card) (es : List Event) : Type 0 where
-  -- the card's bytes of the whole range, and behind them the buffer's own
-  pub buffer : (c : Completion) (bytes : List ℕ) (more : List (Completion × List ℕ)) → gets (begun x h e) es t (q .buffer) ≡ (c, bytes) ∷ more
-      → (bytes ≡ gathered card (regionAt (after x h) (q .handle) .map) (q .offset .0) (q .length) ++ drop (q .length) (bufferThen x e q))
-      × (c .outcome ≡ readTo (q .length)) × (c .buf ≡ Back (q .buffer) (q .length)) × (c .tag ≡ q .tag)
-
 -- the operation has no piece under way any more
 unfoldable pub NoPiece : Awaits → Type 0
 NoPiece Nothing = Unit {0}
@@ -116,12 +95,78 @@ NoPiece (Flush t) = Unit {0}
 unfoldable pub PiecesDone : State → ℕ → Type 0
 PiecesDone s t = names (rowAt s (rowOf t)) t ≡ true → NoPiece (rowAt s (rowOf t) .awaits)
 
+-- the flush count of the last answer given, or n before the first, and the flush result given, if one was
+unfoldable pub countOf : Input → ℕ → ℕ
+countOf (answered a back flushes) n = flushes
+countOf (flushed result) n = n
+
+unfoldable pub countGiven : ℕ → List Given → ℕ
+countGiven n [] = n
+countGiven n (g ∷ gs) = countGiven (countOf (g .0) n) gs
+
+unfoldable pub resultOf : Input → Option Flushed → Option Flushed
+resultOf (answered a back flushes) r = r
+resultOf (flushed result) r = some result
+
+unfoldable pub resultGiven : List Given → Option Flushed
+resultGiven [] = none
+resultGiven (g ∷ gs) = resultOf (g .0) (resultGiven gs)
+
+-- what a write comes to whose pieces were all taken whole, with the ticket of its own range: "Plain ends there." "Durable without either ends Poisoned if the
+-- store is poisoned, else with a receipt of need 2^64 − 1." "A flush result completes the row".
+unfoldable pub durablyTo : Opening → Poisoned → WriteTicket → Option Flushed → Outcome
+durablyTo o first t none = unflushed o first t
+durablyTo o first t (some result) = flushOutcome o t result
+
+unfoldable pub writtenTo : Opening → Poisoned → Bool → WriteTicket → Option Flushed → Outcome
+writtenTo o first durable t result = pick durable (durablyTo o first t result) (Written t)
+
+-- the operation under a queue tag is over: its tag names no row any more
+abbrev pub Over : State → ℕ → Type 0
+Over s t = names (rowAt s (rowOf t)) t ≡ false
+
+-- what the operation has been given, and what it gets
+abbrev pub givenTo : Start → List Event → Event → ℕ → List Event → List Given
+givenTo x h e t es = given (begun x h e) es t
+
+abbrev pub getsIn : Start → List Event → Event → ℕ → Request → List Event → List Completed
+getsIn x h e t q es = gets (begun x h e) es t (q .buffer)
+
+pub record Wrote (x : Start) (h : List Event) (e : Event) (t : ℕ) (q : Request) (card : Card) (es : List Event) : Type 0 where
+  -- once its pieces are done every byte has arrived at its mapped card offset
+  pub arrived : PiecesDone (run (begun x h e) es) t
+      → (i : ℕ) → i < q .length → cardAfter (begun x h e) es card (place (regionAt (after x h) (q .handle) .map) (q .offset .0 + i)) ≡ getD (bufferThen x e q) i 0
+  -- once it is over it has got one completion: the host's tag, its buffer at its whole length with the bytes that it held at acceptance, and what such a write comes to, by the
+  -- flush count of its last answer, its flush result, and the poison at the end
+  pub completes : Over (run (begun x h e) es) t
+      → getsIn x h e t q es
+      ≡ (record {
+        tag = q .tag;
+        outcome = writtenTo (x .opening) (run (begun x h e) es .poison) (q .durable)
+            (ticketOf (x .opening) (planOf (regionAt (after x h) (q .handle))) (Page (startOf q) (endOf q)) (countGiven 0 (givenTo x h e t es))) (resultGiven (givenTo x h e t es));
+        buf = Back (q .buffer) (q .length);
+      }, bufferThen x e q)
+      ∷ []
+  -- a durable one without a flush result: neither policy nor forced mark stood at the end
+  pub no-flush : Over (run (begun x h e) es) t → q .durable ≡ true → resultGiven (givenTo x h e t es) ≡ none
+      → x .opening .flush || regionAt (run (begun x h e) es) (q .handle) .forced ≡ false
+  -- and before, none
+  pub none-yet : names (rowAt (run (begun x h e) es) (rowOf t)) t ≡ true → getsIn x h e t q es ≡ []
+
+pub record DidRead (x : Start) (h : List Event) (e : Event) (t : ℕ) (q : Request) (card : Card) (es : List Event) : Type 0 where
+  -- the card's bytes of the whole range, and behind them the buffer's own
+  pub completes : Over (run (begun x h e) es) t
+      → getsIn x h e t q es
+      ≡ (record { tag = q .tag; outcome = readTo (q .length); buf = Back (q .buffer) (q .length) }, gathered card (regionAt (after x h) (q .handle) .map) (q .offset .0) (q .length) ++ drop (q .length) (bufferThen x e q))
+      ∷ []
+  pub none-yet : names (rowAt (run (begun x h e) es) (rowOf t)) t ≡ true → getsIn x h e t q es ≡ []
+
 pub record Demand2 : Type 0 where
   pub write : (x : Start) (h : List Event) (e : Event) (t : ℕ) (q : Request) → Accepted x h e t q (calls (Write q)) → (card : Card) (es : List Event)
-      → Served (begun x h e) es t q card → PiecesDone (run (begun x h e) es) t → Wrote x h e t q card es
+      → Served (begun x h e) es t q card → Wrote x h e t q card es
   pub read : (x : Start) (h : List Event) (e : Event) (t : ℕ) (q : Request) → Accepted x h e t q (calls (ReadPage q)) → (card : Card) (es : List Event)
       → Served (begun x h e) es t q card → DidRead x h e t q card es
-  -- "and touch no other byte of card or pool": an answer changes no card byte outside its operation's range, and no call a byte of a buffer that is not the
+  -- "and touch no other byte", of card or pool: an answer changes no card byte outside its operation's range, and no call a byte of a buffer that is not the
   -- buffer of the live row that its tag names
   pub card-others : (s : State) (e : Event) (card : Card) (y : ℕ) → Sound s → (writesIn (rowAt s (rowOf (tagIn (e .made))) .awaits) ≡ true → Mapped s (rowAt s (rowOf (tagIn (e .made)))) y → ⊥) → cardBy s e card y ≡ card y
   pub pool-others : (s : State) (e : Event) (b : ℕ) → Sound (leave s (e .leaves)) → b < s .settings .buffers
