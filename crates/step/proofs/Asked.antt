@@ -127,11 +127,11 @@ module _ (s : State) (t : ℕ) (r : Row) (named : names r t ≡ true) (here : ro
   in-rows = live-in s (rowOf t) (ap (λ (x : Row). isLive (x .awaits)) here ∙ names-live r t named)
 
   -- the row as a fate leaves it
-  row-then : (s′ : State) (new : Row) → s′ .rows ≡ set (s .rows) (rowOf t) new → rowAt s′ (rowOf t) ≡ new
+  pub row-then : (s′ : State) (new : Row) → s′ .rows ≡ set (s .rows) (rowOf t) new → rowAt s′ (rowOf t) ≡ new
   unfolding rowAt
   row-then s′ new e = ap (λ (l : List Row). getD l (rowOf t) (freed 0)) e ∙ getD-set-same (s .rows) (rowOf t) new (freed 0) in-rows
 
-  gone : (s′ : State) (g : ℕ) → s′ .rows ≡ set (s .rows) (rowOf t) (freed g) → names (rowAt s′ (rowOf t)) t ≡ true → ⊥
+  pub gone : (s′ : State) (g : ℕ) → s′ .rows ≡ set (s .rows) (rowOf t) (freed g) → names (rowAt s′ (rowOf t)) t ≡ true → ⊥
   gone s′ g e live = not-both (ap (λ (x : Row). names x t) (sym (row-then s′ (freed g) e)) ∙ live) (unfold names freed isLive in refl)
 
   settled-asks : (f : Fate) → AsksIt t (settled s t r f)

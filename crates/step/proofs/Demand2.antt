@@ -11,6 +11,7 @@ use Rattle.layout.proofs.Tests.{not-both}
 use Rattle.regionmap.specs.Map.{Map, place}
 use Rattle.posix.specs.Posix.{Card}
 use Rattle.transfer.specs.Transfer.{gathered}
+use Rattle.completion.specs.declared.Completion.{Completion}
 use Rattle.model.specs.declared.Kind.{Kind}
 use Rattle.model.specs.declared.Kind.the-variants.{Page, Read}
 use Rattle.model.specs.declared.Request.{Request}
@@ -19,15 +20,16 @@ use Rattle.model.specs.State.{State}
 use Rattle.step.specs.Questions.{regionAt}
 use Rattle.step.specs.Rules.{firstOf, lastOf}
 use Rattle.step.specs.Step.{startOf, endOf}
-use Rattle.step.specs.Laws.{Made, Made.calls, Event, leave, done, run, replyTo}
-use Rattle.step.specs.Lists.{Hosted}
+use Rattle.step.specs.Laws.{Made, Made.calls, Event, leave, done, replyTo}
+use Rattle.step.specs.Lists.{Completed, Hosted}
 use Rattle.step.specs.Alone.{tagGiven}
 use Rattle.step.specs.Demand3.{Start, openedBy, after}
-use Rattle.step.specs.Demand2.{Served, Accepted, bufferThen, begun, Wrote, DidRead, Demand2}
+use Rattle.step.specs.Demand2.{Served, Accepted, bufferThen, begun, getsIn, Wrote, DidRead, Followed, AllWhole, isKept, Demand2}
 use Rattle.step.proofs.Demand2Others.{card-others, pool-others}
 use Rattle.step.proofs.Demand2Bytes.{gathered-length, gathered-at}
 use Rattle.step.proofs.Demand2Fate.{pages}
 use Rattle.step.proofs.Demand2Task.{Task}
+use Rattle.step.proofs.Demand2Kept.{stage-writes, kept-from}
 use Rattle.step.proofs.Demand2Walk.{Along, walk}
 use Rattle.step.proofs.Demand2Begun.{Begun, begun-write, begun-read, before, may, then-length, task, opens}
 
@@ -84,5 +86,16 @@ module _ (x : Start) (h : List Event) (e : Event) (t : ℕ) (q : Request) where
         none-yet = z .none-yet;
       }
 
+  kept : Accepted x h e t q (calls (Write q)) → (es : List Event) → Followed (begun x h e) es t → (c : Completion) (bytes : List ℕ) (more : List Completed) → getsIn x h e t q es ≡ (c, bytes) ∷ more
+      → isKept (c .outcome) ≡ true → AllWhole (begun x h e) es t
+  unfolding replyTo firstOf lastOf pages
+  kept a es followed c bytes more got ok =
+      let k = Page (startOf q) (endOf q) in
+      let g = subst (λ (n : Made). tagGiven (done s₁ (e .lengths) n .1) ≡ some t → Begun s₁ q k t (done s₁ (e .lengths) n)) (sym (a .made-so)) (begun-write s₁ q t (e .lengths)) (a .tag) in
+      let same = bufferThen x e q in
+      let o = opens x (after x h) (before x h e (a .hosted) .sound) (before x h e (a .hosted) .fixed) e (may x h e (a .hosted)) q k t g refl refl (take (q .length) same)
+      (old-length x h e t q (a .hosted) k g) (λ page. refl) (λ y. 0) (λ reads. absurd (not-both refl reads)) in
+      kept-from t (q .buffer) c bytes more ok es (begun x h e) (o .sound) (stage-writes _ 0 0 _ refl (o .in-row .stage)) followed got
+
 pub demand2 : Demand2
-demand2 = record { write = write; read = read; card-others = card-others; pool-others = pool-others }
+demand2 = record { write = write; read = read; kept = kept; card-others = card-others; pool-others = pool-others }

@@ -83,7 +83,7 @@ unfolding done
 away-done s l (calls c) e = let z = is-turned _ e in turned-away s l c (z .f) (z .is)
 away-done s l (looks x) e = refl
 
-away-same : (s : State) (e : Event) → isAway (replyTo s e) ≡ true → next s e ≡ leave s (e .leaves)
+pub away-same : (s : State) (e : Event) → isAway (replyTo s e) ≡ true → next s e ≡ leave s (e .leaves)
 unfolding next replyTo
 away-same s e gone = away-done (leave s (e .leaves)) (e .lengths) (e .made) gone
 
@@ -104,7 +104,7 @@ module _ (s : State) (e : Event) (t : ℕ) (i : Input) (bt : brought t (e .made)
       (λ same. ap (λ (b : Bool). isAway (pick b (settled s₁ t (rowAt s₁ (rowOf t)) (fateOf s₁ (rowAt s₁ (rowOf t)) i)) (s₁, turnedAway UnknownTag) .1)) n) (λ other. refl)
 
   -- a tag that names one, where the event is not turned away
-  heard-settles : names (rowAt s (rowOf t)) t ≡ true → isAway (replyTo s e) ≡ false → done s₁ (e .lengths) (e .made) ≡ settled s₁ t (rowAt s (rowOf t)) (fateOf s₁ (rowAt s (rowOf t)) i)
+  pub heard-settles : names (rowAt s (rowOf t)) t ≡ true → isAway (replyTo s e) ≡ false → done s₁ (e .lengths) (e .made) ≡ settled s₁ t (rowAt s (rowOf t)) (fateOf s₁ (rowAt s (rowOf t)) i)
   unfolding replyTo underTag isAway pick rowAt leave
   heard-settles n heard = by-lengths (eqLengths (e .lengths) (s₁ .lengths)) refl
     where

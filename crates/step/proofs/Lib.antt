@@ -50,6 +50,7 @@ pub mod Demand2Bytes
 pub mod Demand2Fate
 pub mod Demand2Task
 pub mod Demand2Event
+pub mod Demand2Kept
 pub mod Demand2Walk
 pub mod Demand2Begun
 pub mod Demand2

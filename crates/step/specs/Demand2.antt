@@ -17,11 +17,10 @@ use Rattle.domain.specs.declared.Poisoned.{Poisoned}
 use Rattle.platform.specs.declared.Flushed.{Flushed}
 use Rattle.completion.specs.declared.WriteTicket.{WriteTicket}
 use Rattle.completion.specs.declared.Outcome.{Outcome}
-use Rattle.completion.specs.declared.Outcome.the-variants.{Written, Read as readTo}
+use Rattle.completion.specs.declared.Outcome.the-variants.{Written, Receipt, Read as readTo, Unknown, Interrupted, Corruption, Io, QueueFull, Poisoned as poisonedBy}
 use Rattle.completion.specs.declared.Buffer.the-variants.{Back}
 use Rattle.completion.specs.declared.Completion.{Completion}
 use Rattle.model.specs.declared.Opening.{Opening}
-use Rattle.model.specs.declared.Kind.{Kind}
 use Rattle.model.specs.declared.Kind.the-variants.{Page, Read}
 use Rattle.model.specs.declared.Awaits.{Awaits}
 use Rattle.model.specs.declared.Awaits.the-variants.{Nothing, Piece, Flush}
@@ -161,11 +160,39 @@ pub record DidRead (x : Start) (h : List Event) (e : Event) (t : ℕ) (q : Reque
       ∷ []
   pub none-yet : names (rowAt (run (begun x h e) es) (rowOf t)) t ≡ true → getsIn x h e t q es ≡ []
 
+-- ---- the converse, whatever the card answers
+
+-- a list of events, whatever their calls and answers, through which the operation under the queue tag t is open, until it ends
+unfoldable pub Followed : State → List Event → ℕ → Type 0
+Followed s [] t = Unit {0}
+Followed s (e ∷ es) t = (names (rowAt s (rowOf t)) t ≡ true) × HostMay s (e .leaves) × Followed (next s e) es t
+
+-- each of its pieces that was answered, by an answer not turned away, was taken whole with its buffer back
+unfoldable pub AllWhole : State → List Event → ℕ → Type 0
+AllWhole s [] t = Unit {0}
+AllWhole s (e ∷ es) t =
+    ((i : Input) → brought t (e .made) ≡ some i → isAway (replyTo s e) ≡ false → WholeTo s (rowAt s (rowOf t)) (rowAt s (rowOf t) .awaits) i) × AllWhole (next s e) es t
+
+-- a completion that counts a write as kept: written, with a receipt or without
+unfoldable pub isKept : Outcome → Bool
+isKept (Written t) = true
+isKept (Receipt t r) = true
+isKept (readTo n) = false
+isKept (Unknown r c) = false
+isKept (Interrupted r) = false
+isKept (Corruption r) = false
+isKept (Io r o e) = false
+isKept (QueueFull r) = false
+isKept (poisonedBy c) = false
+
 pub record Demand2 : Type 0 where
   pub write : (x : Start) (h : List Event) (e : Event) (t : ℕ) (q : Request) → Accepted x h e t q (calls (Write q)) → (card : Card) (es : List Event)
       → Served (begun x h e) es t q card → Wrote x h e t q card es
   pub read : (x : Start) (h : List Event) (e : Event) (t : ℕ) (q : Request) → Accepted x h e t q (calls (ReadPage q)) → (card : Card) (es : List Event)
       → Served (begun x h e) es t q card → DidRead x h e t q card es
+  -- a write that is counted as kept had each of its pieces taken whole with its buffer back, in whatever order and form the card answered
+  pub kept : (x : Start) (h : List Event) (e : Event) (t : ℕ) (q : Request) → Accepted x h e t q (calls (Write q)) → (es : List Event) → Followed (begun x h e) es t
+      → (c : Completion) (bytes : List ℕ) (more : List Completed) → getsIn x h e t q es ≡ (c, bytes) ∷ more → isKept (c .outcome) ≡ true → AllWhole (begun x h e) es t
   -- "and touch no other byte", of card or pool: an answer changes no card byte outside its operation's range, and no call a byte of a buffer that is not the
   -- buffer of the live row that its tag names
   pub card-others : (s : State) (e : Event) (card : Card) (y : ℕ) → Sound s → (writesIn (rowAt s (rowOf (tagIn (e .made))) .awaits) ≡ true → Mapped s (rowAt s (rowOf (tagIn (e .made)))) y → ⊥) → cardBy s e card y ≡ card y
