@@ -27,7 +27,8 @@ use Rattle.step.specs.Rules.{Input, firstOf, pieceOf, pieceLength}
 use Rattle.step.specs.Step.{rowAt, isLive, planOf}
 use Rattle.step.specs.Sound.{rangeStart, rangeEnd, SplitFits, InTable, Sound}
 use Rattle.step.specs.Lists.{loose, planAt, takesWhole, wroteBy}
-use Rattle.step.specs.Demand3.{Mapped, isWrite}
+use Rattle.step.specs.Demand3.{isWrite}
+use Rattle.step.specs.Demand2.{doneOf, ToWrite}
 use Rattle.step.proofs.ProjectionHost.{live-in-table}
 
 -- ---- of what else a byte follows
@@ -81,26 +82,29 @@ module _ (s : State) (i : Sound s) (r : Row) (t : InTable s r) (a b : Position) 
   one-piece : OnePiece m (a .0 + sp .done) (sp .total - sp .done)
   one-piece = map-laws .one-piece m (i .each (r .handle) (t .region) .lawful) (a .0 + sp .done) (sp .total - sp .done) (let z = split in omega arith) (let z = split in let d = in-data in omega arith)
 
-  -- a byte of the piece is mapped
-  mapped : (j : ℕ) → j < pieceSize m (a .0 + sp .done) (sp .total - sp .done) → (y : ℕ) → place m (a .0 + sp .done) + j ≡ y → Mapped s r y
-  unfolding rangeStart rangeEnd
-  mapped j lt y e = record {
-    i = sp .done + j;
-    inside =
-        subst (λ (w : Awaits). rangeStart w + (sp .done + j) < rangeEnd w) (sym at) (let z = split in let p = one-piece .most in omega (arith, z, p, lt));
-    at =
-        subst (λ (w : Awaits). place m (rangeStart w + (sp .done + j)) ≡ y) (sym at)
-        (ap (place m) (sym (add-assoc (a .0) (sp .done) j)) ∙ one-piece .consecutive j lt ∙ e);
+  -- a byte of the piece is still to be written
+  to-write : (j : ℕ) → j < pieceSize m (a .0 + sp .done) (sp .total - sp .done) → (y : ℕ) → place m (a .0 + sp .done) + j ≡ y → ToWrite s r y
+  unfolding rangeStart rangeEnd doneOf
+  to-write j lt y e = record {
+    mapped = record {
+      i = sp .done + j;
+      inside =
+          subst (λ (w : Awaits). rangeStart w + (sp .done + j) < rangeEnd w) (sym at) (let z = split in let p = one-piece .most in omega (arith, z, p, lt));
+      at =
+          subst (λ (w : Awaits). place m (rangeStart w + (sp .done + j)) ≡ y) (sym at)
+          (ap (place m) (sym (add-assoc (a .0) (sp .done) j)) ∙ one-piece .consecutive j lt ∙ e);
+    };
+    behind = subst (λ (w : Awaits). doneOf w ≤ sp .done + j) (sym at) (omega arith);
   }
 
-  piece-away : (bytes : List ℕ) (card : Card) (y : ℕ) → (Mapped s r y → ⊥) → pwrite card (place m (a .0 + sp .done)) (take (pieceLength (planAt s r) (Page a b) sp) bytes) y ≡ card y
+  piece-away : (bytes : List ℕ) (card : Card) (y : ℕ) → (ToWrite s r y → ⊥) → pwrite card (place m (a .0 + sp .done)) (take (pieceLength (planAt s r) (Page a b) sp) bytes) y ≡ card y
   unfolding pieceLength pieceOf planAt planOf firstOf
   piece-away bytes card y n =
       let size = pieceSize m (a .0 + sp .done) (sp .total - sp .done) in
       transfer-laws .others card (place m (a .0 + sp .done)) (take size bytes) y
-      (λ j lt e. n (mapped j (omega (arith, lt, length-take size bytes)) y e))
+      (λ j lt e. n (to-write j (omega (arith, lt, length-take size bytes)) y e))
 
-pub wrote-away : (s : State) → Sound s → (k : ℕ) (bytes : List ℕ) (i : Option Input) (card : Card) (y : ℕ) → (isWrite (rowAt s k .awaits) ≡ true → Mapped s (rowAt s k) y → ⊥)
+pub wrote-away : (s : State) → Sound s → (k : ℕ) (bytes : List ℕ) (i : Option Input) (card : Card) (y : ℕ) → (isWrite (rowAt s k .awaits) ≡ true → ToWrite s (rowAt s k) y → ⊥)
     → wroteBy (planAt s (rowAt s k)) (rowAt s k .awaits) bytes i card y ≡ card y
 unfolding wroteBy pick
 wrote-away s sound k bytes i card y n = by-awaits (rowAt s k .awaits) refl
@@ -112,7 +116,7 @@ wrote-away s sound k bytes i card y n = by-awaits (rowAt s k .awaits) refl
     by-awaits Nothing e = refl
     by-awaits (Piece (Page a b) sp) e = by-test (takesWhole (pieceLength g (Page a b) sp) i)
       where
-        unmapped : Mapped s (rowAt s k) y → ⊥
+        unmapped : ToWrite s (rowAt s k) y → ⊥
         unmapped = n (unfold isWrite in ap isWrite e)
 
         in-table : InTable s (rowAt s k)

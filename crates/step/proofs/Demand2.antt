@@ -67,7 +67,7 @@ module _ (x : Start) (h : List Event) (e : Event) (t : ℕ) (q : Request) where
       record {
         arrived = λ pieces i lt. z .arrived pieces i lt ∙ getD-take (q .length) same i 0 lt;
         completes = λ gone. let y = z .completed gone in
-        y .only ∙ (λ j. (record { tag = y .finished .tag j; outcome = y .finished .wrote refl j; buf = y .finished .buf j }, take-append-drop (q .length) same j) ∷ []);
+            y .only ∙ (λ j. (record { tag = y .finished .tag j; outcome = y .finished .wrote refl j; buf = y .finished .buf j }, take-append-drop (q .length) same j) ∷ []);
         no-flush = λ gone. z .completed gone .finished .policy refl;
         none-yet = z .none-yet;
       }
@@ -82,7 +82,7 @@ module _ (x : Start) (h : List Event) (e : Event) (t : ℕ) (q : Request) where
       (λ reads i lt. sym (gathered-at card m₁ (q .offset .0) (q .length) i lt)) es served in
       record {
         completes = λ gone. let y = z .completed gone in
-        y .only ∙ (λ j. (record { tag = y .finished .tag j; outcome = y .finished .outcome refl j; buf = y .finished .buf j }, gathered card m₁ (q .offset .0) (q .length) ++ drop (q .length) (bufferThen x e q)) ∷ []);
+            y .only ∙ (λ j. (record { tag = y .finished .tag j; outcome = y .finished .outcome refl j; buf = y .finished .buf j }, gathered card m₁ (q .offset .0) (q .length) ++ drop (q .length) (bufferThen x e q)) ∷ []);
         none-yet = z .none-yet;
       }
 

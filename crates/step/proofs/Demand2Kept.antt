@@ -195,9 +195,11 @@ module _ (t b : ℕ) (c : Completion) (bytes : List ℕ) (more : List Completed)
       by-fate : (f : Fate) → fateOf left row i ≡ f → Judged s row i f → its
       unfolding settled going freeing Fitting leave isAway replyTo Followed gets awaitsNow
       by-fate (away x) q j = absurd (not-both (ap (λ (z : State × Reply). isAway (z .1)) (heard-settles s e t i bt named heard ∙ ap (settled left t row) q)) heard)
-      by-fate (awaits a bs) q (whole z) =
-          (head z, goes (awaitsNow row a) (ap (λ (y : State). rowAt y (rowOf t)) (next-is (awaits a bs) q) ∙ row-then left t row named here _ (awaitsNow row a) refl)
-          (onward-writes _ (row .awaits) a writes (subst (FateFits left row) q (fate-fits left row i) .0 .follows)) (added-none (ap (λ (y : State). y .ready) (next-is (awaits a bs) q))))
+      by-fate (awaits a bs) q (whole z) = (
+        head z,
+        goes (awaitsNow row a) (ap (λ (y : State). rowAt y (rowOf t)) (next-is (awaits a bs) q) ∙ row-then left t row named here _ (awaitsNow row a) refl)
+            (onward-writes _ (row .awaits) a writes (subst (FateFits left row) q (fate-fits left row i) .0 .follows)) (added-none (ap (λ (y : State). y .ready) (next-is (awaits a bs) q))),
+      )
       by-fate (awaits a bs) q (lost o d bs′ cause x n) = clash (cc)
       by-fate (awaits a bs) q (refused x d bs′ n) = clash (cc)
       by-fate (awaits a bs) q (turned x n) = clash (cc)

@@ -32,7 +32,8 @@ use Rattle.step.specs.Step.{withRegions, withPoison, marked, withGate, w
 use Rattle.step.specs.Sound.{Sound}
 use Rattle.step.specs.Laws.{Made, Made.calls, Made.looks, Event, leave, done, next, replyTo}
 use Rattle.step.specs.Lists.{broughtBy, brought, isAway, planAt, wroteBy, tagIn, cardBy}
-use Rattle.step.specs.Demand3.{Mapped, isWrite}
+use Rattle.step.specs.Demand3.{isWrite}
+use Rattle.step.specs.Demand2.{ToWrite}
 use Rattle.step.proofs.Picked.{by-pick}
 use Rattle.step.proofs.Named.{live-one}
 use Rattle.step.proofs.AloneTags.{clash, names-live, one-tag}
@@ -47,7 +48,7 @@ use Rattle.step.proofs.ProjectionSet.{bytes-there}
 -- ---- the card
 
 -- only a write that awaits a piece changes a byte
-pub wrote-unless : (s : State) → Sound s → (k : ℕ) (bytes : List ℕ) (i : Option Input) (card : Card) (y : ℕ) → (writesIn (rowAt s k .awaits) ≡ true → Mapped s (rowAt s k) y → ⊥)
+pub wrote-unless : (s : State) → Sound s → (k : ℕ) (bytes : List ℕ) (i : Option Input) (card : Card) (y : ℕ) → (writesIn (rowAt s k .awaits) ≡ true → ToWrite s (rowAt s k) y → ⊥)
     → wroteBy (planAt s (rowAt s k)) (rowAt s k .awaits) bytes i card y ≡ card y
 unfolding wroteBy
 wrote-unless s sound k bytes i card y n = by-awaits (rowAt s k .awaits) refl
@@ -61,7 +62,7 @@ wrote-unless s sound k bytes i card y n = by-awaits (rowAt s k .awaits) refl
     by-awaits (Piece (Read a b) sp) e = away (unfold writesIn isWrite in ap writesIn e ∙ sym (ap isWrite e))
     by-awaits (Flush t) e = ap (λ (a : Awaits). wroteBy (planAt s (rowAt s k)) a bytes i card y) e
 
-pub card-others : (s : State) (e : Event) (card : Card) (y : ℕ) → Sound s → (writesIn (rowAt s (rowOf (tagIn (e .made))) .awaits) ≡ true → Mapped s (rowAt s (rowOf (tagIn (e .made)))) y → ⊥) → cardBy s e card y ≡ card y
+pub card-others : (s : State) (e : Event) (card : Card) (y : ℕ) → Sound s → (writesIn (rowAt s (rowOf (tagIn (e .made))) .awaits) ≡ true → ToWrite s (rowAt s (rowOf (tagIn (e .made)))) y → ⊥) → cardBy s e card y ≡ card y
 unfolding cardBy
 card-others s e card y sound n =
     by-pick (isAway (replyTo s e)) (λ (after : Card). after y ≡ card y) (λ gone. refl)

@@ -6,7 +6,7 @@ use mathlib.Core.Logic.{_≢_}
 use mathlib.Core.Bool.{Bool, true, false, _||_}
 use mathlib.Core.Option.{Option, none, some}
 use mathlib.Core.List.{List, [], _∷_, _++_}
-use Prim.Native.Nat.{ℕ, _+_, _<_}
+use Prim.Native.Nat.{ℕ, _+_, _≤_, _<_}
 use lib.ListN.{getD, drop}
 use Rattle.layout.specs.Pick.{pick}
 use Rattle.regionmap.specs.Map.{place}
@@ -58,9 +58,19 @@ unfoldable pub TakenWhole : State → Event → ℕ → Card → Type 0
 TakenWhole s e t card = (i : Input) → brought t (e .made) ≡ some i → isAway (replyTo s e) ≡ false
     → WholeTo s (rowAt s (rowOf t)) (rowAt s (rowOf t) .awaits) i × HoldsCard (leave s (e .leaves)) (rowAt s (rowOf t)) (rowAt s (rowOf t) .awaits) card
 
--- "no other operation writing its bytes meanwhile": no other open write is mapped to a byte of the request's range
+-- the card bytes that an open write is still to write: of its range those behind the bytes done
+unfoldable pub doneOf : Awaits → ℕ
+doneOf Nothing = 0
+doneOf (Piece k s) = s .done
+doneOf (Flush t) = 0
+
+pub record ToWrite (s : State) (r : Row) (y : ℕ) : Type 0 where
+  pub mapped : Mapped s r y
+  pub behind : doneOf (r .awaits) ≤ mapped .i
+
+-- "no other operation writing its bytes meanwhile": no other open write is still to write a byte of the request's range
 unfoldable pub Undisturbed : State → ℕ → Request → Type 0
-Undisturbed s t q = (r y i : ℕ) → r ≢ rowOf t → writesIn (rowAt s r .awaits) ≡ true → Mapped s (rowAt s r) y → i < q .length → place (regionAt s (q .handle) .map) (q .offset .0 + i) ≡ y → ⊥
+Undisturbed s t q = (r y i : ℕ) → r ≢ rowOf t → writesIn (rowAt s r .awaits) ≡ true → ToWrite s (rowAt s r) y → i < q .length → place (regionAt s (q .handle) .map) (q .offset .0 + i) ≡ y → ⊥
 
 -- a list of events, whatever their calls, through which the operation under the queue tag t is served so, until it ends; the card changes as the table's
 -- pieces say
@@ -139,12 +149,15 @@ pub record Wrote (x : Start) (h : List Event) (e : Event) (t : ℕ) (q : Request
   -- flush count of its last answer, its flush result, and the poison at the end
   pub completes : Over (run (begun x h e) es) t
       → getsIn x h e t q es
-      ≡ (record {
-        tag = q .tag;
-        outcome = writtenTo (x .opening) (run (begun x h e) es .poison) (q .durable)
-            (ticketOf (x .opening) (planOf (regionAt (after x h) (q .handle))) (Page (startOf q) (endOf q)) (countGiven 0 (givenTo x h e t es))) (resultGiven (givenTo x h e t es));
-        buf = Back (q .buffer) (q .length);
-      }, bufferThen x e q)
+      ≡ (
+        record {
+          tag = q .tag;
+          outcome = writtenTo (x .opening) (run (begun x h e) es .poison) (q .durable)
+              (ticketOf (x .opening) (planOf (regionAt (after x h) (q .handle))) (Page (startOf q) (endOf q)) (countGiven 0 (givenTo x h e t es))) (resultGiven (givenTo x h e t es));
+          buf = Back (q .buffer) (q .length);
+        },
+        bufferThen x e q,
+      )
       ∷ []
   -- a durable one without a flush result: neither policy nor forced mark stood at the end
   pub no-flush : Over (run (begun x h e) es) t → q .durable ≡ true → resultGiven (givenTo x h e t es) ≡ none
@@ -193,9 +206,9 @@ pub record Demand2 : Type 0 where
   -- a write that is counted as kept had each of its pieces taken whole with its buffer back, in whatever order and form the card answered
   pub kept : (x : Start) (h : List Event) (e : Event) (t : ℕ) (q : Request) → Accepted x h e t q (calls (Write q)) → (es : List Event) → Followed (begun x h e) es t
       → (c : Completion) (bytes : List ℕ) (more : List Completed) → getsIn x h e t q es ≡ (c, bytes) ∷ more → isKept (c .outcome) ≡ true → AllWhole (begun x h e) es t
-  -- "and touch no other byte", of card or pool: an answer changes no card byte outside its operation's range, and no call a byte of a buffer that is not the
+  -- "and touch no other byte", of card or pool: an answer changes no card byte but those that its operation is still to write, and no call a byte of a buffer that is not the
   -- buffer of the live row that its tag names
-  pub card-others : (s : State) (e : Event) (card : Card) (y : ℕ) → Sound s → (writesIn (rowAt s (rowOf (tagIn (e .made))) .awaits) ≡ true → Mapped s (rowAt s (rowOf (tagIn (e .made)))) y → ⊥) → cardBy s e card y ≡ card y
+  pub card-others : (s : State) (e : Event) (card : Card) (y : ℕ) → Sound s → (writesIn (rowAt s (rowOf (tagIn (e .made))) .awaits) ≡ true → ToWrite s (rowAt s (rowOf (tagIn (e .made)))) y → ⊥) → cardBy s e card y ≡ card y
   pub pool-others : (s : State) (e : Event) (b : ℕ) → Sound (leave s (e .leaves)) → b < s .settings .buffers
       → ((i : Input) → brought (tagIn (e .made)) (e .made) ≡ some i → names (rowAt s (rowOf (tagIn (e .made)))) (tagIn (e .made)) ≡ true → rowAt s (rowOf (tagIn (e .made))) .buffer ≢ b)
       → bytesAt (next s e) b ≡ bytesAt (leave s (e .leaves)) b
