@@ -1,12 +1,12 @@
 -- The suppositions of demand 2 can be met: with the opening of document 01's figures a write of two pieces, and a read of two pieces, are served, with a lookup,
 -- another submission, its answer, a flush result too early and a count above the piece in between.
-use mathlib.Core.Path.{_≡_, refl, sym, _∙_, subst}
-use mathlib.Core.Logic.{_≢_, inl, inr}
+use mathlib.Core.Path.{_≡_, refl, sym, ap, _∙_, subst}
+use mathlib.Core.Logic.{_≢_}
 use mathlib.Core.Bool.{true, false}
 use mathlib.Core.Option.{none, some}
 use mathlib.Core.List.{List, [], _∷_}
 use Prim.Native.Nat.{ℕ, zero, suc}
-use lib.ListN.{replicate, length-replicate}
+use lib.ListN.{length, replicate, length-replicate}
 use Rattle.layout.specs.Pick.{pick}
 use Rattle.layout.proofs.Tests.{not-both}
 use Rattle.layout.specs.Block.{onBlock}
@@ -30,11 +30,11 @@ use Rattle.step.specs.Rules.{abovePiece, isRefusal, firstRefused, isWhole, goes
 use Rattle.step.specs.Step.{writesIn, queueTag, topOf, rowAt, verdictOf, writeVerdict, readVerdict, durableAs, claimedBy, oneMore, accepted, submitted, rowOf, generationOf, isLive, names, bytesAt, raised, awaitsNow, oneLess, keptBy, poisonWith}
 use Rattle.step.specs.Step.{going, freeing, planOf, asksFor, completionOf, rejection, settled, fateOf, underTag, lookedUp, eqLengths, called, step, look}
 use Rattle.step.specs.Laws.{Made, Made.calls, Made.looks, Event, leave, done, next, replyTo, run}
-use Rattle.step.specs.Lists.{broughtBy, brought, isAway, loose, planAt, leftIn, takesWhole, wroteBy, tagIn, cardBy, HostMay, Hosted}
+use Rattle.step.specs.Lists.{broughtBy, brought, isAway, loose, planAt, leftIn, takesWhole, wroteBy, tagIn, cardBy, Hosted}
 use Rattle.step.specs.Alone.{tagGiven}
 use Rattle.step.specs.Figures.{figuresOpening, figuresPlan, figuresLengths}
 use Rattle.step.specs.Demand3.{Start, plansOf, openedBy, after}
-use Rattle.step.specs.Demand2.{WholeTo, HoldsCard, TakenWhole, Undisturbed, Served, Accepted, Wrote, DidRead, PiecesDone}
+use Rattle.step.specs.Demand2.{WholeTo, HoldsCard, TakenWhole, Undisturbed, Served, Accepted, Wrote, DidRead, getsIn}
 use Rattle.step.proofs.AloneTags.{clash}
 use Rattle.step.proofs.Figures.{figures}
 use Rattle.step.proofs.Demand2.{demand2}
@@ -179,10 +179,15 @@ accepted-as m e = record { hosted = (may (openedBy start), tt); made-so = refl; 
 
 -- so the two operations act like one transfer
 wrote : Wrote start [] (submits (calls (Write its))) 0 its blank (quietly (begunBy (calls (Write its))) between)
-unfolding after run PiecesDone
+unfolding after run
 wrote =
     demand2 .write start [] (submits (calls (Write its))) 0 its (accepted-as (calls (Write its)) (computed .writes)) blank (quietly (begunBy (calls (Write its))) between)
-    (quiet-served (begunBy (calls (Write its))) between 0 its blank (computed .write-served)) (λ named. absurd (not-both named (computed .write-over)))
+    (quiet-served (begunBy (calls (Write its))) between 0 its blank (computed .write-served))
+
+-- the write is over, and has got its one completion
+wrote-once : length (getsIn start [] (submits (calls (Write its))) 0 its (quietly (begunBy (calls (Write its))) between)) ≡ 1
+unfolding after run
+wrote-once = ap length (wrote .completes (computed .write-over))
 
 did-read : DidRead start [] (submits (calls (ReadPage its))) 0 its blank (quietly (begunBy (calls (ReadPage its))) between)
 unfolding after run

@@ -46,6 +46,7 @@ use Rattle.step.proofs.Settled.{keeps-under}
 use Rattle.step.proofs.TakenOut.{keeps-taken}
 use Rattle.step.proofs.Away.{turned-away}
 use Rattle.step.proofs.Opened.{opened-sound}
+use Rattle.step.proofs.Poisoned.{first-kept}
 
 -- ---- a sound table stays sound
 
@@ -113,6 +114,7 @@ step-laws = record {
   turned-away = turned-away;
   another-length = another-length;
   another-length-looked = another-length-looked;
+  first-kept = λ s l c first is. first-kept s first is l c;
   write-numbers = write-numbers;
   read-numbers = read-numbers;
   issued = λ m start total. rw (add-zero, sub-zero) at (issued-from total m start (begun total));

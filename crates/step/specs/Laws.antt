@@ -14,6 +14,8 @@ use Rattle.regionmap.specs.Map.{Map, place, pieces}
 use Rattle.regionmap.specs.Map.{Piece as MapPiece}
 use Rattle.regionmap.specs.Words.{offsetOf}
 use Rattle.transfer.specs.Transfer.{CardAndPool, Operation, wrote, readIn, whole, OneWrite, OneRead}
+use Rattle.domain.specs.declared.FirstCause.{FirstCause}
+use Rattle.domain.specs.declared.Poisoned.the-variants.{First}
 use Rattle.completion.specs.declared.Refusal.{Refusal}
 use Rattle.completion.specs.declared.Refusal.the-variants.{Unfit}
 use Rattle.completion.specs.declared.Reply.{Reply}
@@ -129,6 +131,8 @@ pub record StepLaws : Type 0 where
   -- another length is asked before all else, of a call and of a lookup
   pub another-length : (s : State) (l : Lengths) (c : Call) → eqLengths l (s .lengths) ≡ false → step s l c .1 ≡ turnedAway Unfit
   pub another-length-looked : (s : State) (l : Lengths) (x : Lookup) → eqLengths l (s .lengths) ≡ false → look s l x ≡ turnedAway Unfit
+  -- "the first cause kept": no call changes the poison of a poisoned store
+  pub first-kept : (s : State) (l : Lengths) (c : Call) (first : FirstCause) → s .poison ≡ First first → step s l c .0 .poison ≡ First first
   -- the questions have the paper's numbers, in its order
   pub write-numbers : (s : State) (g : Region) (q : Request) → SaysEach writeNumbers (writeQuestions s g q)
   pub read-numbers : (s : State) (g : Region) (q : Request) → SaysEach readNumbers (readQuestions s g q)
