@@ -1,4 +1,5 @@
--- Document 01, "Figures": the starred ones, as one table, of the definitions, of tables reached by calls.
+-- Document 01, "Figures": the starred ones, as one table, of the definitions, of tables reached by calls; only the table whose row 0 has its last generation is
+-- given as it stands, since no lifetime of 1,000 reaches it.
 -- "Opening: volume 1, region 7, generation 3, block 512, card 16,384; first offset 1,024, one further run (1,024, 8,192), capacity and data 2,048;
 -- depth 2, three buffers of 2,048, lifetime 1,000, store writable, no flush policy, flush count 0."
 use mathlib.Core.Path.{_≡_}
