@@ -55,9 +55,7 @@ fn counts_of(counts: &[u64; 3]) -> Counts
 fn put_counts(counts: &mut [u64; 3], c: Counts)
     ensures { λ _. ⌜ now (counts .exit) ≡ c .live ∷ c .ready ∷ c .submissions ∷ [] ⌝ }
 {
-    counts[0] = c.live;
-    counts[1] = c.ready;
-    counts[2] = c.submissions;
+    *counts = [c.live, c.ready, c.submissions];
 }
 
 // Whether a call is turned away.
