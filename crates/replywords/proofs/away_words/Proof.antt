@@ -1,13 +1,8 @@
 -- `replywords::away_words` meets its contract: the words are what the callees ensure.
-use Rattle.replywords.specs.ReplyWords.{replyWords}
+use Rattle.replywords.proofs.Words.{away-are}
 use borrow.Author.Needs.{needs}
 use Rattle.replywords.proofs.away_words.Statement.{statement}
 use Rattle.replywords.proofs.away_words.Tie as tie
-use Rattle.replywords.proofs.away_words.Reads as reads
-use Rattle.replywords.proofs.away_words.Lts as lts
-use Rattle.replywords.proofs.told_words.Reads as told-words-reads
-use Rattle.texts.proofs.number_of.Reads as number-of-reads
-use Rattle.told.proofs.told_of.Reads as told-of-reads
 
 number-of-requires : tie.Need-number-of-requires
 number-of-requires c κs = search needs
@@ -31,8 +26,8 @@ array-read-t17 : tie.Need-array-read-t17
 array-read-t17 c = search needs
 
 returns : tie.Need-returns
-unfolding replyWords
-returns c = ?
+returns c =
+    away-are (c .before .before .before .args .f) _ _ _ (c .before .before .number-of .ensures) (c .told-words .ensures) (c .before .told-of .ensures)
 
 pub away-words-spec : {M : Type 1} → statement M
 away-words-spec =

@@ -4,11 +4,6 @@ use Rattle.replywords.specs.ReplyWords.{valuesWords}
 use borrow.Author.Needs.{needs}
 use Rattle.replywords.proofs.cause_words.Statement.{statement}
 use Rattle.replywords.proofs.cause_words.Tie as tie
-use Rattle.replywords.proofs.cause_words.Reads as reads
-use Rattle.replywords.proofs.cause_words.Lts as lts
-use Rattle.causes.proofs.has_word.Reads as has-word-reads
-use Rattle.causes.proofs.op_word.Reads as op-word-reads
-use Rattle.causes.proofs.raw_word.Reads as raw-word-reads
 
 op-word-requires : tie.Need-op-word-requires
 op-word-requires c κs = search needs
@@ -21,7 +16,7 @@ raw-word-requires c κs = search needs
 
 returns : tie.Need-returns
 unfolding valuesWords toldValues
-returns c = ?
+returns c = rw (c .before .before .op-word .ensures, c .before .has-word .ensures, c .raw-word .ensures)
 
 pub cause-words-spec : {M : Type 1} → statement M
 cause-words-spec =

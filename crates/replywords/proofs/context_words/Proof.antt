@@ -5,8 +5,6 @@ use Rattle.replywords.specs.ReplyWords.{valuesWords}
 use borrow.Author.Needs.{needs}
 use Rattle.replywords.proofs.context_words.Statement.{statement}
 use Rattle.replywords.proofs.context_words.Tie as tie
-use Rattle.replywords.proofs.context_words.Reads as reads
-use Rattle.replywords.proofs.context_words.Lts as lts
 
 enum-told : tie.Need-enum-told
 enum-told c = search needs

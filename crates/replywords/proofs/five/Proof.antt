@@ -3,8 +3,6 @@ use mathlib.Core.Path.{refl}
 use Rattle.replywords.specs.ReplyWords.{filled}
 use Rattle.replywords.proofs.five.Statement.{statement}
 use Rattle.replywords.proofs.five.Tie as tie
-use Rattle.replywords.proofs.five.Reads as reads
-use Rattle.replywords.proofs.five.Lts as lts
 
 returns : tie.Need-returns
 unfolding filled

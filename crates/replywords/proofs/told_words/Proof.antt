@@ -2,10 +2,6 @@
 use borrow.Author.Needs.{needs}
 use Rattle.replywords.proofs.told_words.Statement.{statement}
 use Rattle.replywords.proofs.told_words.Tie as tie
-use Rattle.replywords.proofs.told_words.Reads as reads
-use Rattle.replywords.proofs.told_words.Lts as lts
-use Rattle.replywords.proofs.cause_words.Reads as cause-words-reads
-use Rattle.replywords.proofs.context_words.Reads as context-words-reads
 
 enum-known-t : tie.Need-enum-known-t
 enum-known-t c = search needs

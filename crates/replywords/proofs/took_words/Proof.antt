@@ -1,11 +1,8 @@
 -- `replywords::took_words` meets its contract: the 16 words of a completion, one by one.
-use Rattle.replywords.specs.ReplyWords.{replyWords}
+use Rattle.replywords.proofs.Words.{took-are}
 use borrow.Author.Needs.{needs}
 use Rattle.replywords.proofs.took_words.Statement.{statement}
 use Rattle.replywords.proofs.took_words.Tie as tie
-use Rattle.replywords.proofs.took_words.Reads as reads
-use Rattle.replywords.proofs.took_words.Lts as lts
-use Rattle.encode.proofs.words_of.Reads as words-of-reads
 
 words-of-requires : tie.Need-words-of-requires
 words-of-requires c κs = search needs
@@ -59,8 +56,7 @@ array-read-t51 : tie.Need-array-read-t51
 array-read-t51 c = search needs
 
 returns : tie.Need-returns
-unfolding replyWords
-returns c = ?
+returns c = took-are (c .before .args .c) _ (c .words-of .ensures)
 
 pub took-words-spec : {M : Type 1} → statement M
 took-words-spec =
