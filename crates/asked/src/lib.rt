@@ -1,7 +1,7 @@
 // What a host asks for in numbers (specs/Asked.antt): a call of the model, or a code that names nothing.
 ghost use mathlib.Core.Path.{_≡_};
 ghost use Rattle.model.specs.Memory.{settingsIn};
-ghost use Rattle.model.specs.declared.Call.the-variants.{Answer, Flushed, SetGate};
+ghost use Rattle.model.specs.declared.Call.the-variants.{Answer as answerCall, Flushed as flushedCall, SetGate};
 ghost use Rattle.asked.specs.Asked.{requestIn, errorOf, causeOf, answerAsked, flushedAsked, gateAsked, poisonAsked};
 use domain::FirstCause;
 use domain::OsError;
@@ -79,7 +79,7 @@ fn cause_of(op: u64, has: bool, raw: u32) -> FirstCause
 
 // The call of an answer.
 fn answered(qtag: u64, answer: Answer, back: bool, flushes: u64) -> Asked
-    ensures { λ r. ⌜ r ≡ Asked.Call (Answer qtag answer back flushes) ⌝ }
+    ensures { λ r. ⌜ r ≡ Asked.Call (answerCall qtag answer back flushes) ⌝ }
 {
     Asked::Call(model::Call::Answer {
         qtag,
@@ -91,7 +91,7 @@ fn answered(qtag: u64, answer: Answer, back: bool, flushes: u64) -> Asked
 
 // The call of a flush result.
 fn flushed(qtag: u64, result: Flushed) -> Asked
-    ensures { λ r. ⌜ r ≡ Asked.Call (Flushed qtag result) ⌝ }
+    ensures { λ r. ⌜ r ≡ Asked.Call (flushedCall qtag result) ⌝ }
 {
     Asked::Call(model::Call::Flushed { qtag, result })
 }
