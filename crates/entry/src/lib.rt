@@ -1,5 +1,7 @@
 // What a host in C or Rust calls (store-io's Submitter, one function for each of its calls): numbers and slices of numbers in, the reply into `out`, 17 words
 // (replywords). A slice crosses as a pointer and a length. The contracts are the model's calls over rows in words (specs/Entry.antt).
+ghost use mathlib.Core.Path.{_≡_};
+ghost use Rattle.iobuf.specs.Turn.{turned};
 ghost use Rattle.model.specs.declared.Call.the-variants.{Write, ReadPage, Take, SetReadOnly, SetForced};
 ghost use Rattle.model.specs.declared.Lookup.the-variants.{WritesLive, Mark};
 ghost use Rattle.model.specs.Memory.{settingsIn};
@@ -362,4 +364,12 @@ pub extern "C" fn table_mark(
         pool,
     );
     *out = replywords::reply_words(reply);
+}
+
+// Turns the first n bytes left by k, as a call turns a buffer between two pieces (the slices' rotate_left): for a host that arranges bytes itself, and to time it.
+#[no_mangle]
+pub extern "C" fn table_turn(bytes: &mut [u8], n: usize, k: usize)
+    ensures { λ _. ⌜ now (bytes .exit) ≡ turned n k (now (bytes .entry)) ⌝ }
+{
+    iobuf::rotate_left(bytes, n, k);
 }
