@@ -159,11 +159,15 @@ fn pool(open: &Open) -> BufPool {
     BufPool::new(&PoolConfig { classes: vec![class] }).expect("a pool of one class")
 }
 
-fn inner(open: &Open, regions: &[Arc<LiveRegion>]) -> Inner<Card> {
+fn inner<P>(platform: P, open: &Open, regions: &[Arc<LiveRegion>]) -> Inner<P>
+where
+    P: Platform<File = (), Dir = (), Lock = ()>,
+    P::Queue: Send,
+{
     Inner {
         queues: QueueSet::new(Vec::new(), 1),
         flusher: OnceLock::new(),
-        platform: Card,
+        platform,
         _dir: (),
         file: (),
         flush_files: Box::new([]),
@@ -197,8 +201,17 @@ fn inner(open: &Open, regions: &[Arc<LiveRegion>]) -> Inner<Card> {
 
 /// The store and its regions' handles, in order.
 pub fn build(opening: &Opening) -> (Store<Card>, Vec<PageRegion<Card>>) {
+    build_on(Card, opening)
+}
+
+/// The same over another platform, whose files, like the card's, are nothing.
+pub fn build_on<P>(platform: P, opening: &Opening) -> (Store<P>, Vec<PageRegion<P>>)
+where
+    P: Platform<File = (), Dir = (), Lock = ()>,
+    P::Queue: Send,
+{
     let regions: Vec<Arc<LiveRegion>> = opening.regions.iter().map(live).collect();
-    let store = Store { inner: Arc::new(inner(&opening.open, &regions)) };
+    let store = Store { inner: Arc::new(inner(platform, &opening.open, &regions)) };
     let handles = regions.into_iter().map(|state| PageRegion::from_parts(store.clone(), state)).collect();
     (store, handles)
 }

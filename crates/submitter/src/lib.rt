@@ -23,7 +23,7 @@ pub enum Opened {
 }
 
 // The reply, by how many rows there are.
-fn reply(depth: usize) -> Opened
+pub fn reply(depth: usize) -> Opened
     ensures { λ r. ⌜ r ≡ openedWith depth ⌝ }
 {
     if depth == 0 {
@@ -81,12 +81,12 @@ pub fn call(
 }
 
 // Whether what is lent has the lengths of the opening, and the depth of the table then.
-struct Fit {
-    fits: bool,
-    depth: usize,
+pub struct Fit {
+    pub fits: bool,
+    pub depth: usize,
 }
 
-fn fitted(
+pub fn fitted(
     rows: usize,
     store: &[u64],
     free: &[u64],
@@ -119,7 +119,7 @@ fn fitted(
 }
 
 // The reply to a lookup, by whether the lengths are the opening's: "A later call with another length of row memory or pool gets 13 first."
-fn answer(x: Lookup, counts: Counts, fits: bool, l: Looked) -> Reply
+pub fn answer(x: Lookup, counts: Counts, fits: bool, l: Looked) -> Reply
     ensures { λ r. ⌜ r ≡ answerOf fits x counts l ⌝ }
 {
     if fits {

@@ -1,0 +1,45 @@
+-- `entry::table_answer` meets its contract: what is asked for is what the codes name.
+use borrow.Author.Needs.{needs}
+use Rattle.entry.proofs.table_answer.Statement.{statement}
+use Rattle.entry.proofs.table_answer.Tie as tie
+
+answer-asked-requires : tie.Need-answer-asked-requires
+answer-asked-requires c κs = search needs
+
+asked-requires : tie.Need-asked-requires
+asked-requires c κs = search needs
+
+same-length : tie.Need-same-length
+same-length c = search needs
+
+same-length-2 : tie.Need-same-length-2
+same-length-2 c = search needs
+
+same-length-3 : tie.Need-same-length-3
+same-length-3 c = search needs
+
+same-length-4 : tie.Need-same-length-4
+same-length-4 c = search needs
+
+same-length-5 : tie.Need-same-length-5
+same-length-5 c = search needs
+
+same-length-6 : tie.Need-same-length-6
+same-length-6 c = search needs
+
+returns : tie.Need-returns
+returns c = rw (← c .before .before .before .before .before .before .before .before .before .before .before .before .before .before .before .before .before .before .before .before .before .answer-asked .ensures) (c .before .before .before .before .before .before .before .before .before .before .before .before .asked .ensures)
+
+pub table-answer-spec : {M : Type 1} → statement M
+table-answer-spec =
+    tie.close
+    (tie.spec
+    answer-asked-requires
+    asked-requires
+    same-length
+    same-length-2
+    same-length-3
+    same-length-4
+    same-length-5
+    same-length-6
+    returns)

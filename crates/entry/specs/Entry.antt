@@ -1,0 +1,64 @@
+-- "contracts give values": what each function that a host in C or Rust calls leaves in what the host lends and in `out`. The promises are those of a host that
+-- lends records (wordcalls: OpensInWords, CallsInWords, LooksInWords); `out` gets the reply's words (replywords: replyWords). A code that names nothing changes
+-- nothing, and gets a case of its own.
+use mathlib.Core.Path.{_≡_}
+use mathlib.Core.List.{List, [], _∷_}
+use Prim.Native.Nat.{ℕ}
+use Rattle.completion.specs.declared.Reply.{Reply}
+use Rattle.completion.specs.declared.Reply.the-variants.{No as turnedAway, Ok}
+use Rattle.model.specs.declared.Call.{Call as HostCall}
+use Rattle.model.specs.declared.Counts.{Counts}
+use Rattle.model.specs.declared.Lookup.{Lookup}
+use Rattle.model.specs.declared.Opening.{Opening}
+use Rattle.submitter.specs.declared.Opened.{Opened}
+use Rattle.submitter.specs.declared.Opened.the-variants.{Table, No}
+use Rattle.wordcalls.specs.WordCalls.{OpensInWords, CallsInWords, LooksInWords}
+use Rattle.replywords.specs.ReplyWords.{replyWords, unknownWords}
+use Rattle.asked.specs.declared.Asked.{Asked}
+use Rattle.asked.specs.declared.Asked.the-variants.{Call, Unknown}
+
+-- what a host lends
+pub record Parts : Type 0 where
+  pub counts : List ℕ
+  pub rows : List ℕ
+  pub store : List ℕ
+  pub free : List ℕ
+  pub ready : List ℕ
+  pub owners : List ℕ
+  pub pool : List ℕ
+
+abbrev pub partsOf : List ℕ → List ℕ → List ℕ → List ℕ → List ℕ → List ℕ → List ℕ → Parts
+partsOf counts rows store free ready owners pool = record { counts = counts; rows = rows; store = store; free = free; ready = ready; owners = owners; pool = pool }
+
+-- a call: its reply, what it leaves, and the reply's words
+pub record CallsOut (call : HostCall) (p p′ : Parts) (out : List ℕ) : Type 0 where
+  pub reply : Reply
+  pub calls : CallsInWords call (p .counts) (p .rows) (p .store) (p .free) (p .ready) (p .owners) (p .pool) reply (p′ .counts) (p′ .rows) (p′ .store) (p′ .free) (p′ .ready) (p′ .owners) (p′ .pool)
+  pub out-is : out ≡ replyWords reply
+
+-- what is asked for: a call, or nothing
+unfoldable pub AnswersOut : Asked → Parts → Parts → List ℕ → Type 0
+AnswersOut (Call call) p p′ out = CallsOut call p p′ out
+AnswersOut Unknown p p′ out = (p′ ≡ p) × (out ≡ unknownWords)
+
+-- a lookup: it changes nothing
+pub record LooksOut (x : Lookup) (p : Parts) (out : List ℕ) : Type 0 where
+  pub reply : Reply
+  pub looks : LooksInWords x (p .counts) (p .rows) (p .store) (p .free) (p .ready) (p .owners) (p .pool) reply
+  pub out-is : out ≡ replyWords reply
+
+-- an opening: "Is all this so, and the row memory long enough? No: 13." The table's counts go to their words; refused, those stay too.
+unfoldable pub openedReply : Opened → Reply
+openedReply (Table c) = Ok
+openedReply (No f) = turnedAway f
+
+unfoldable pub openedCounts : Opened → List ℕ → List ℕ
+openedCounts (Table c) counts = c .live ∷ c .ready ∷ c .submissions ∷ []
+openedCounts (No f) counts = counts
+
+pub record OpensOut (o : Opening) (plan : List ℕ) (p p′ : Parts) (out : List ℕ) : Type 0 where
+  pub opened : Opened
+  pub opens : OpensInWords o plan (p .rows) (p .store) (p .free) (p .ready) (p .owners) (p .pool) opened (p′ .rows) (p′ .store) (p′ .free) (p′ .ready) (p′ .owners)
+  pub counts-are : p′ .counts ≡ openedCounts opened (p .counts)
+  pub pool-is : p′ .pool ≡ p .pool
+  pub out-is : out ≡ replyWords (openedReply opened)

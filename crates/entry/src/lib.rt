@@ -1,0 +1,375 @@
+// What a host in C or Rust calls (store-io's Submitter, one function for each of its calls): numbers and slices of numbers in, the reply into `out`, 17 words
+// (replywords). A slice crosses as a pointer and a length. The contracts are the model's calls over rows in words (specs/Entry.antt).
+ghost use mathlib.Core.Path.{_≡_};
+ghost use Rattle.iobuf.specs.Turn.{turned};
+ghost use Rattle.model.specs.declared.Call.the-variants.{Write, ReadPage, Take, SetReadOnly, SetForced};
+ghost use Rattle.model.specs.declared.Lookup.the-variants.{WritesLive, Mark};
+ghost use Rattle.model.specs.Memory.{settingsIn};
+ghost use Rattle.asked.specs.Asked.{requestIn, answerAsked, flushedAsked, gateAsked, poisonAsked};
+ghost use Rattle.entry.specs.Entry.{partsOf, CallsOut, AnswersOut, LooksOut, OpensOut};
+use asked::Asked;
+use completion::Reply;
+use model::Call;
+use model::Lookup;
+use submitter::Opened;
+
+// A call, and its reply's words.
+fn answer(
+    call: Call,
+    counts: &mut [u64; 3],
+    rows: &mut [u64],
+    store: &mut [u64],
+    free: &mut [u64],
+    ready: &mut [u64],
+    owners: &mut [u64],
+    pool: &mut [u8],
+    out: &mut [u64; 17],
+)
+    ensures { λ _. ⌜ CallsOut call (partsOf (now (counts .entry)) (now (rows .entry)) (now (store .entry)) (now (free .entry)) (now (ready .entry)) (now (owners .entry)) (now (pool .entry))) (partsOf (now (counts .exit)) (now (rows .exit)) (now (store .exit)) (now (free .exit)) (now (ready .exit)) (now (owners .exit)) (now (pool .exit))) (now (out .exit)) ⌝ }
+{
+    let reply = wordcalls::call_words(call, counts, rows, store, free, ready, owners, pool);
+    *out = replywords::reply_words(reply);
+}
+
+// What is asked for: a call, or by a code that names nothing, none.
+fn asked(
+    asked: Asked,
+    counts: &mut [u64; 3],
+    rows: &mut [u64],
+    store: &mut [u64],
+    free: &mut [u64],
+    ready: &mut [u64],
+    owners: &mut [u64],
+    pool: &mut [u8],
+    out: &mut [u64; 17],
+)
+    ensures { λ _. ⌜ AnswersOut asked (partsOf (now (counts .entry)) (now (rows .entry)) (now (store .entry)) (now (free .entry)) (now (ready .entry)) (now (owners .entry)) (now (pool .entry))) (partsOf (now (counts .exit)) (now (rows .exit)) (now (store .exit)) (now (free .exit)) (now (ready .exit)) (now (owners .exit)) (now (pool .exit))) (now (out .exit)) ⌝ }
+{
+    match asked {
+        Asked::Call(call) => answer(call, counts, rows, store, free, ready, owners, pool, out),
+        Asked::Unknown => *out = replywords::unknown_words(),
+    }
+}
+
+// Opens a table in what is lent (Store::submitter). The opening's 13 numbers are block, depth, lifetime, card, buffers, capacity, read-only, flush policy, volume,
+// class, label, epoch and regions; the plan has 70 words for each region.
+#[no_mangle]
+pub extern "C" fn table_open(
+    opening: &[u64; 13],
+    plan: &[u64],
+    counts: &mut [u64; 3],
+    rows: &mut [u64],
+    store: &mut [u64],
+    free: &mut [u64],
+    ready: &mut [u64],
+    owners: &mut [u64],
+    pool: &[u8],
+    out: &mut [u64; 17],
+)
+    ensures { λ _. ⌜ OpensOut (settingsIn (now (opening .entry))) (now (plan .entry)) (partsOf (now (counts .entry)) (now (rows .entry)) (now (store .entry)) (now (free .entry)) (now (ready .entry)) (now (owners .entry)) (now (pool .entry))) (partsOf (now (counts .exit)) (now (rows .exit)) (now (store .exit)) (now (free .exit)) (now (ready .exit)) (now (owners .exit)) (now (pool .entry))) (now (out .exit)) ⌝ }
+{
+    let o = asked::opening_of(opening);
+    let opened = wordcalls::open_words(o, plan, rows, store, free, ready, owners, pool);
+    match opened {
+        Opened::Table(c) => {
+            *counts = [c.live, c.ready, c.submissions];
+            *out = replywords::reply_words(Reply::Ok);
+        }
+        Opened::No(f) => *out = replywords::reply_words(Reply::No(f)),
+    }
+}
+
+// A write (Submitter::write). The request's 9 words are handle, volume, region, generation, offset, buffer, length, durable and the host's tag.
+#[no_mangle]
+pub extern "C" fn table_write(
+    request: &[u64; 9],
+    counts: &mut [u64; 3],
+    rows: &mut [u64],
+    store: &mut [u64],
+    free: &mut [u64],
+    ready: &mut [u64],
+    owners: &mut [u64],
+    pool: &mut [u8],
+    out: &mut [u64; 17],
+)
+    ensures { λ _. ⌜ CallsOut (Write (requestIn (now (request .entry)))) (partsOf (now (counts .entry)) (now (rows .entry)) (now (store .entry)) (now (free .entry)) (now (ready .entry)) (now (owners .entry)) (now (pool .entry))) (partsOf (now (counts .exit)) (now (rows .exit)) (now (store .exit)) (now (free .exit)) (now (ready .exit)) (now (owners .exit)) (now (pool .exit))) (now (out .exit)) ⌝ }
+{
+    let request = asked::request_of(request);
+    answer(
+        Call::Write(request),
+        counts,
+        rows,
+        store,
+        free,
+        ready,
+        owners,
+        pool,
+        out,
+    )
+}
+
+// A read (Submitter::read_page), with the same 9 words.
+#[no_mangle]
+pub extern "C" fn table_read_page(
+    request: &[u64; 9],
+    counts: &mut [u64; 3],
+    rows: &mut [u64],
+    store: &mut [u64],
+    free: &mut [u64],
+    ready: &mut [u64],
+    owners: &mut [u64],
+    pool: &mut [u8],
+    out: &mut [u64; 17],
+)
+    ensures { λ _. ⌜ CallsOut (ReadPage (requestIn (now (request .entry)))) (partsOf (now (counts .entry)) (now (rows .entry)) (now (store .entry)) (now (free .entry)) (now (ready .entry)) (now (owners .entry)) (now (pool .entry))) (partsOf (now (counts .exit)) (now (rows .exit)) (now (store .exit)) (now (free .exit)) (now (ready .exit)) (now (owners .exit)) (now (pool .exit))) (now (out .exit)) ⌝ }
+{
+    let request = asked::request_of(request);
+    answer(
+        Call::ReadPage(request),
+        counts,
+        rows,
+        store,
+        free,
+        ready,
+        owners,
+        pool,
+        out,
+    )
+}
+
+// The card's answer to a piece, by its form: 0 a count, 1 an error, 2 refused, 3 refused with an error (Table::finish and abort).
+#[no_mangle]
+pub extern "C" fn table_answer(
+    qtag: u64,
+    form: u64,
+    count: u64,
+    raw: u32,
+    media: bool,
+    back: bool,
+    flushes: u64,
+    counts: &mut [u64; 3],
+    rows: &mut [u64],
+    store: &mut [u64],
+    free: &mut [u64],
+    ready: &mut [u64],
+    owners: &mut [u64],
+    pool: &mut [u8],
+    out: &mut [u64; 17],
+)
+    ensures { λ _. ⌜ AnswersOut (answerAsked qtag form count raw media back flushes) (partsOf (now (counts .entry)) (now (rows .entry)) (now (store .entry)) (now (free .entry)) (now (ready .entry)) (now (owners .entry)) (now (pool .entry))) (partsOf (now (counts .exit)) (now (rows .exit)) (now (store .exit)) (now (free .exit)) (now (ready .exit)) (now (owners .exit)) (now (pool .exit))) (now (out .exit)) ⌝ }
+{
+    let what = asked::answer_asked(qtag, form, count, raw, media, back, flushes);
+    asked(what, counts, rows, store, free, ready, owners, pool, out)
+}
+
+// A flush result, by its form: 0 a need, 1 DurabilityUnknown, 2 Poisoned, each of the two with a cause (Table::flushed).
+#[no_mangle]
+pub extern "C" fn table_flushed(
+    qtag: u64,
+    form: u64,
+    need: u64,
+    op: u64,
+    has: bool,
+    raw: u32,
+    counts: &mut [u64; 3],
+    rows: &mut [u64],
+    store: &mut [u64],
+    free: &mut [u64],
+    ready: &mut [u64],
+    owners: &mut [u64],
+    pool: &mut [u8],
+    out: &mut [u64; 17],
+)
+    ensures { λ _. ⌜ AnswersOut (flushedAsked qtag form need op has raw) (partsOf (now (counts .entry)) (now (rows .entry)) (now (store .entry)) (now (free .entry)) (now (ready .entry)) (now (owners .entry)) (now (pool .entry))) (partsOf (now (counts .exit)) (now (rows .exit)) (now (store .exit)) (now (free .exit)) (now (ready .exit)) (now (owners .exit)) (now (pool .exit))) (now (out .exit)) ⌝ }
+{
+    let what = asked::flushed_asked(qtag, form, need, op, has, raw);
+    asked(what, counts, rows, store, free, ready, owners, pool, out)
+}
+
+// The oldest completion is taken (Completions::next).
+#[no_mangle]
+pub extern "C" fn table_take(
+    counts: &mut [u64; 3],
+    rows: &mut [u64],
+    store: &mut [u64],
+    free: &mut [u64],
+    ready: &mut [u64],
+    owners: &mut [u64],
+    pool: &mut [u8],
+    out: &mut [u64; 17],
+)
+    ensures { λ _. ⌜ CallsOut Take (partsOf (now (counts .entry)) (now (rows .entry)) (now (store .entry)) (now (free .entry)) (now (ready .entry)) (now (owners .entry)) (now (pool .entry))) (partsOf (now (counts .exit)) (now (rows .exit)) (now (store .exit)) (now (free .exit)) (now (ready .exit)) (now (owners .exit)) (now (pool .exit))) (now (out .exit)) ⌝ }
+{
+    answer(
+        Call::Take,
+        counts,
+        rows,
+        store,
+        free,
+        ready,
+        owners,
+        pool,
+        out,
+    )
+}
+
+// A region's gate is set: 0 open, 1 recycled, 2 released.
+#[no_mangle]
+pub extern "C" fn table_set_gate(
+    handle: u64,
+    gate: u64,
+    counts: &mut [u64; 3],
+    rows: &mut [u64],
+    store: &mut [u64],
+    free: &mut [u64],
+    ready: &mut [u64],
+    owners: &mut [u64],
+    pool: &mut [u8],
+    out: &mut [u64; 17],
+)
+    ensures { λ _. ⌜ AnswersOut (gateAsked handle gate) (partsOf (now (counts .entry)) (now (rows .entry)) (now (store .entry)) (now (free .entry)) (now (ready .entry)) (now (owners .entry)) (now (pool .entry))) (partsOf (now (counts .exit)) (now (rows .exit)) (now (store .exit)) (now (free .exit)) (now (ready .exit)) (now (owners .exit)) (now (pool .exit))) (now (out .exit)) ⌝ }
+{
+    let what = asked::gate_asked(handle, gate);
+    asked(what, counts, rows, store, free, ready, owners, pool, out)
+}
+
+// A region's read-only mark is set.
+#[no_mangle]
+pub extern "C" fn table_set_read_only(
+    handle: u64,
+    on: bool,
+    counts: &mut [u64; 3],
+    rows: &mut [u64],
+    store: &mut [u64],
+    free: &mut [u64],
+    ready: &mut [u64],
+    owners: &mut [u64],
+    pool: &mut [u8],
+    out: &mut [u64; 17],
+)
+    ensures { λ _. ⌜ CallsOut (SetReadOnly handle on) (partsOf (now (counts .entry)) (now (rows .entry)) (now (store .entry)) (now (free .entry)) (now (ready .entry)) (now (owners .entry)) (now (pool .entry))) (partsOf (now (counts .exit)) (now (rows .exit)) (now (store .exit)) (now (free .exit)) (now (ready .exit)) (now (owners .exit)) (now (pool .exit))) (now (out .exit)) ⌝ }
+{
+    answer(
+        Call::SetReadOnly { handle, on },
+        counts,
+        rows,
+        store,
+        free,
+        ready,
+        owners,
+        pool,
+        out,
+    )
+}
+
+// A region's forced mark is set.
+#[no_mangle]
+pub extern "C" fn table_set_forced(
+    handle: u64,
+    on: bool,
+    counts: &mut [u64; 3],
+    rows: &mut [u64],
+    store: &mut [u64],
+    free: &mut [u64],
+    ready: &mut [u64],
+    owners: &mut [u64],
+    pool: &mut [u8],
+    out: &mut [u64; 17],
+)
+    ensures { λ _. ⌜ CallsOut (SetForced handle on) (partsOf (now (counts .entry)) (now (rows .entry)) (now (store .entry)) (now (free .entry)) (now (ready .entry)) (now (owners .entry)) (now (pool .entry))) (partsOf (now (counts .exit)) (now (rows .exit)) (now (store .exit)) (now (free .exit)) (now (ready .exit)) (now (owners .exit)) (now (pool .exit))) (now (out .exit)) ⌝ }
+{
+    answer(
+        Call::SetForced { handle, on },
+        counts,
+        rows,
+        store,
+        free,
+        ready,
+        owners,
+        pool,
+        out,
+    )
+}
+
+// Poison is reported, with a cause: operation 0 none, 1 read, 2 write, 3 flush (Domain::poison).
+#[no_mangle]
+pub extern "C" fn table_report_poison(
+    op: u64,
+    has: bool,
+    raw: u32,
+    counts: &mut [u64; 3],
+    rows: &mut [u64],
+    store: &mut [u64],
+    free: &mut [u64],
+    ready: &mut [u64],
+    owners: &mut [u64],
+    pool: &mut [u8],
+    out: &mut [u64; 17],
+)
+    ensures { λ _. ⌜ AnswersOut (poisonAsked op has raw) (partsOf (now (counts .entry)) (now (rows .entry)) (now (store .entry)) (now (free .entry)) (now (ready .entry)) (now (owners .entry)) (now (pool .entry))) (partsOf (now (counts .exit)) (now (rows .exit)) (now (store .exit)) (now (free .exit)) (now (ready .exit)) (now (owners .exit)) (now (pool .exit))) (now (out .exit)) ⌝ }
+{
+    let what = asked::poison_asked(op, has, raw);
+    asked(what, counts, rows, store, free, ready, owners, pool, out)
+}
+
+// Whether a write still awaits a piece (Table::writes_live).
+#[no_mangle]
+pub extern "C" fn table_writes_live(
+    counts: &[u64; 3],
+    rows: &[u64],
+    store: &[u64],
+    free: &[u64],
+    ready: &[u64],
+    owners: &[u64],
+    pool: &[u8],
+    out: &mut [u64; 17],
+)
+    ensures { λ _. ⌜ LooksOut WritesLive (partsOf (now (counts .entry)) (now (rows .entry)) (now (store .entry)) (now (free .entry)) (now (ready .entry)) (now (owners .entry)) (now (pool .entry))) (now (out .exit)) ⌝ }
+{
+    let reply = wordcalls::lookup_words(
+        Lookup::WritesLive,
+        counts,
+        rows,
+        store,
+        free,
+        ready,
+        owners,
+        pool,
+    );
+    *out = replywords::reply_words(reply);
+}
+
+// The mark (frontier.rs).
+#[no_mangle]
+pub extern "C" fn table_mark(
+    counts: &[u64; 3],
+    rows: &[u64],
+    store: &[u64],
+    free: &[u64],
+    ready: &[u64],
+    owners: &[u64],
+    pool: &[u8],
+    out: &mut [u64; 17],
+)
+    ensures { λ _. ⌜ LooksOut Mark (partsOf (now (counts .entry)) (now (rows .entry)) (now (store .entry)) (now (free .entry)) (now (ready .entry)) (now (owners .entry)) (now (pool .entry))) (now (out .exit)) ⌝ }
+{
+    let reply = wordcalls::lookup_words(
+        Lookup::Mark,
+        counts,
+        rows,
+        store,
+        free,
+        ready,
+        owners,
+        pool,
+    );
+    *out = replywords::reply_words(reply);
+}
+
+// Turns the first n bytes left by k, as a call turns a buffer between two pieces (the slices' rotate_left): for a host that arranges bytes itself, and to time it.
+#[no_mangle]
+pub extern "C" fn table_turn(bytes: &mut [u8], n: usize, k: usize)
+    ensures { λ _. ⌜ now (bytes .exit) ≡ turned n k (now (bytes .entry)) ⌝ }
+{
+    iobuf::rotate_left(bytes, n, k);
+}

@@ -1,0 +1,12 @@
+-- `replywords::five` meets its contract: the words are listed.
+use mathlib.Core.Path.{refl}
+use Rattle.replywords.specs.ReplyWords.{filled}
+use Rattle.replywords.proofs.five.Statement.{statement}
+use Rattle.replywords.proofs.five.Tie as tie
+
+returns : tie.Need-returns
+unfolding filled
+returns c = refl
+
+pub five-spec : {M : Type 1} → statement M
+five-spec = tie.close (tie.spec returns)

@@ -1,0 +1,19 @@
+-- `wordcalls::away` meets its contract: one case is turned away.
+use Rattle.wordcalls.proofs.Calling.{not-away}
+use Rattle.wordcalls.specs.WordCalls.{isAway}
+use borrow.Author.Needs.{needs}
+use Rattle.wordcalls.proofs.away.Statement.{statement}
+use Rattle.wordcalls.proofs.away.Tie as tie
+
+enum-told : tie.Need-enum-told
+enum-told c = search needs
+
+returns : tie.Need-returns
+unfolding isAway
+returns c = search needs
+
+returns-2 : tie.Need-returns-2
+returns-2 c = not-away (c .before .args .reply) (c .match .keys2)
+
+pub away-spec : {M : Type 1} → statement M
+away-spec = tie.close (tie.spec enum-told returns returns-2)

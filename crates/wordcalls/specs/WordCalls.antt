@@ -1,0 +1,62 @@
+-- "The host lends row memory and a pool": the same table, the rows in words (rowwords: rowsIn) and the counts in three words. The promises are the very ones of
+-- a host that lends records (OpensTo of the submitter, CallsTo and LooksTo of called), and what is left of the rows' words besides.
+use mathlib.Core.Path.{_≡_}
+use mathlib.Core.Bool.{Bool, true, false}
+use mathlib.Core.Logic.{_⊎_}
+use mathlib.Core.List.{List}
+use Prim.Native.Nat.{ℕ, _+_, _*_, _≤_, _<_}
+use lib.ListN.{length, getD, drop}
+use Rattle.completion.specs.declared.Refusal.{Refusal}
+use Rattle.completion.specs.declared.Reply.{Reply}
+use Rattle.completion.specs.declared.Reply.the-variants.{Piece, No as turnedAway, Rejected, Done, Flush, Took, None, Ok, Writes, Mark}
+use Rattle.model.specs.declared.Call.{Call}
+use Rattle.model.specs.declared.Counts.{Counts}
+use Rattle.model.specs.declared.Lookup.{Lookup}
+use Rattle.model.specs.declared.Opening.{Opening}
+use Rattle.model.specs.Memory.{Lent}
+use Rattle.called.specs.Called.{lentOf, placeOf, CallsTo, LooksTo}
+use Rattle.submitter.specs.declared.Opened.{Opened}
+use Rattle.submitter.specs.declared.Opened.the-variants.{No}
+use Rattle.submitter.specs.Open.{OpensTo}
+use Rattle.rowwords.specs.RowWords.{rowsIn}
+
+-- "the counts of live rows, ready completions and submissions", in that order
+unfoldable pub countsIn : List ℕ → Counts
+countsIn w = record { live = getD w 0 0; ready = getD w 1 0; submissions = getD w 2 0 }
+
+-- what a host lends, its rows in words
+abbrev pub lentIn : List ℕ → List ℕ → List ℕ → List ℕ → List ℕ → List ℕ → Lent
+lentIn rows store free ready owners pool = lentOf (rowsIn rows) store free ready owners pool
+
+-- "Is all this so, and the row memory long enough? No: 13."
+pub record OpensInWords (o : Opening) (plan rows store free ready owners pool : List ℕ) (r : Opened) (rows′ store′ free′ ready′ owners′ : List ℕ) : Type 0 where
+  pub opens : OpensTo o plan (lentIn rows store free ready owners pool) r (rowsIn rows′) store′ free′ ready′ owners′
+  -- a refused opening changes no word of the rows either, and none behind the last row of an admitted one is written
+  pub turned-away : (f : Refusal) → r ≡ No f → rows′ ≡ rows
+  pub behind : drop (16 * o .depth) rows′ ≡ drop (16 * o .depth) rows
+  pub long : length rows′ ≡ length rows
+
+pub record CallsInWords (call : Call) (counts rows store free ready owners pool : List ℕ) (r : Reply) (counts′ rows′ store′ free′ ready′ owners′ pool′ : List ℕ) : Type 0 where
+  pub calls : CallsTo call (countsIn counts) (lentIn rows store free ready owners pool) r (countsIn counts′) (lentIn rows′ store′ free′ ready′ owners′ pool′)
+  -- a call that is turned away changes nothing: no word of the counts or of the rows either
+  pub turned-away : (f : Refusal) → r ≡ turnedAway f → (counts′ ≡ counts) × (rows′ ≡ rows)
+  -- no word but those of the row that the call touches is written
+  pub others : (i : ℕ) → (i < 16 * placeOf call (countsIn counts) free) ⊎ (16 * placeOf call (countsIn counts) free + 16 ≤ i) → getD rows′ i 0 ≡ getD rows i 0
+  pub long : length rows′ ≡ length rows
+
+-- what a lookup gives: it changes nothing
+abbrev pub LooksInWords : Lookup → List ℕ → List ℕ → List ℕ → List ℕ → List ℕ → List ℕ → List ℕ → Reply → Type 0
+LooksInWords x counts rows store free ready owners pool r = LooksTo x (countsIn counts) (lentIn rows store free ready owners pool) r
+
+-- for the code: whether a call is turned away
+unfoldable pub isAway : Reply → Bool
+isAway (Piece qtag offset count buffer) = false
+isAway (turnedAway f) = true
+isAway (Rejected range op raw buf) = false
+isAway (Done qtag) = false
+isAway (Flush qtag need) = false
+isAway (Took c) = false
+isAway None = false
+isAway Ok = false
+isAway (Writes on) = false
+isAway (Mark n) = false
