@@ -73,9 +73,9 @@ pub extern "C" fn table_open(
     match opened {
         Opened::Table(c) => {
             *counts = [c.live, c.ready, c.submissions];
-            replywords::put_reply(Reply::Ok, out);
+            replywords::put_whole(Reply::Ok, out);
         }
-        Opened::No(f) => replywords::put_reply(Reply::No(f), out),
+        Opened::No(f) => replywords::put_whole(Reply::No(f), out),
     }
 }
 
@@ -336,7 +336,7 @@ pub extern "C" fn table_writes_live(
         owners,
         pool,
     );
-    replywords::put_reply(reply, out);
+    replywords::put_whole(reply, out);
 }
 
 // The mark (frontier.rs).
@@ -363,7 +363,7 @@ pub extern "C" fn table_mark(
         owners,
         pool,
     );
-    replywords::put_reply(reply, out);
+    replywords::put_whole(reply, out);
 }
 
 // Turns the first n bytes left by k, as a call turns a buffer between two pieces (the slices' rotate_left): for a host that arranges bytes itself, and to time it.

@@ -168,7 +168,7 @@ fn word(b: bool) -> u64
 }
 
 // The words of a reply, put where the host lends room for them.
-pub fn put_reply(r: Reply, out: &mut [u64; 17])
+pub fn put_whole(r: Reply, out: &mut [u64; 17])
     ensures { λ _. ⌜ now (out .exit) ≡ replyWords r ⌝ }
 {
     match r {
@@ -192,6 +192,23 @@ pub fn put_reply(r: Reply, out: &mut [u64; 17])
         Reply::Ok => *out = five(8, 0, 0, 0, 0),
         Reply::Writes(on) => *out = five(9, word(on), 0, 0, 0),
         Reply::Mark(n) => *out = five(10, n, 0, 0, 0),
+    }
+}
+
+// The same: a short reply is put at once, and what only a long one holds is not read.
+pub fn put_reply(r: Reply, out: &mut [u64; 17])
+    ensures { λ _. ⌜ now (out .exit) ≡ replyWords r ⌝ }
+{
+    match r {
+        Reply::Piece {
+            qtag,
+            offset,
+            count,
+            buffer,
+        } => *out = five(1, qtag, offset.0, count, buffer),
+        Reply::Done { qtag } => *out = five(4, qtag, 0, 0, 0),
+        Reply::Flush { qtag, need } => *out = five(5, qtag, need, 0, 0),
+        _ => put_whole(r, out),
     }
 }
 
