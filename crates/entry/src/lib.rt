@@ -28,7 +28,7 @@ fn answer(
     ensures { λ _. ⌜ CallsOut call (partsOf (now (counts .entry)) (now (rows .entry)) (now (store .entry)) (now (free .entry)) (now (ready .entry)) (now (owners .entry)) (now (pool .entry))) (partsOf (now (counts .exit)) (now (rows .exit)) (now (store .exit)) (now (free .exit)) (now (ready .exit)) (now (owners .exit)) (now (pool .exit))) (now (out .exit)) ⌝ }
 {
     let reply = wordcalls::call_words(call, counts, rows, store, free, ready, owners, pool);
-    *out = replywords::reply_words(reply);
+    replywords::put_reply(reply, out);
 }
 
 // What is asked for: a call, or by a code that names nothing, none.
@@ -47,7 +47,7 @@ fn asked(
 {
     match asked {
         Asked::Call(call) => answer(call, counts, rows, store, free, ready, owners, pool, out),
-        Asked::Unknown => *out = replywords::unknown_words(),
+        Asked::Unknown => replywords::put_unknown(out),
     }
 }
 
@@ -73,9 +73,9 @@ pub extern "C" fn table_open(
     match opened {
         Opened::Table(c) => {
             *counts = [c.live, c.ready, c.submissions];
-            *out = replywords::reply_words(Reply::Ok);
+            replywords::put_whole(Reply::Ok, out);
         }
-        Opened::No(f) => *out = replywords::reply_words(Reply::No(f)),
+        Opened::No(f) => replywords::put_whole(Reply::No(f), out),
     }
 }
 
@@ -336,7 +336,7 @@ pub extern "C" fn table_writes_live(
         owners,
         pool,
     );
-    *out = replywords::reply_words(reply);
+    replywords::put_whole(reply, out);
 }
 
 // The mark (frontier.rs).
@@ -363,7 +363,7 @@ pub extern "C" fn table_mark(
         owners,
         pool,
     );
-    *out = replywords::reply_words(reply);
+    replywords::put_whole(reply, out);
 }
 
 // Turns the first n bytes left by k, as a call turns a buffer between two pieces (the slices' rotate_left): for a host that arranges bytes itself, and to time it.

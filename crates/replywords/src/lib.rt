@@ -167,9 +167,9 @@ fn word(b: bool) -> u64
     if b { 1 } else { 0 }
 }
 
-// The words of a reply.
-pub fn reply_words(r: Reply) -> [u64; 17]
-    ensures { λ w. ⌜ w ≡ replyWords r ⌝ }
+// The words of a reply, put where the host lends room for them.
+pub fn put_whole(r: Reply, out: &mut [u64; 17])
+    ensures { λ _. ⌜ now (out .exit) ≡ replyWords r ⌝ }
 {
     match r {
         Reply::Piece {
@@ -177,27 +177,44 @@ pub fn reply_words(r: Reply) -> [u64; 17]
             offset,
             count,
             buffer,
-        } => five(1, qtag, offset.0, count, buffer),
-        Reply::No(f) => away_words(f),
+        } => *out = five(1, qtag, offset.0, count, buffer),
+        Reply::No(f) => *out = away_words(f),
         Reply::Rejected {
             range,
             op,
             raw,
             buf,
-        } => rejected_words(range, op, raw, buf),
-        Reply::Done { qtag } => five(4, qtag, 0, 0, 0),
-        Reply::Flush { qtag, need } => five(5, qtag, need, 0, 0),
-        Reply::Took(c) => took_words(c),
-        Reply::None => five(7, 0, 0, 0, 0),
-        Reply::Ok => five(8, 0, 0, 0, 0),
-        Reply::Writes(on) => five(9, word(on), 0, 0, 0),
-        Reply::Mark(n) => five(10, n, 0, 0, 0),
+        } => *out = rejected_words(range, op, raw, buf),
+        Reply::Done { qtag } => *out = five(4, qtag, 0, 0, 0),
+        Reply::Flush { qtag, need } => *out = five(5, qtag, need, 0, 0),
+        Reply::Took(c) => *out = took_words(c),
+        Reply::None => *out = five(7, 0, 0, 0, 0),
+        Reply::Ok => *out = five(8, 0, 0, 0, 0),
+        Reply::Writes(on) => *out = five(9, word(on), 0, 0, 0),
+        Reply::Mark(n) => *out = five(10, n, 0, 0, 0),
     }
 }
 
-// The words of a code that names nothing.
-pub fn unknown_words() -> [u64; 17]
-    ensures { λ w. ⌜ w ≡ unknownWords ⌝ }
+// The same: a short reply is put at once, and what only a long one holds is not read.
+pub fn put_reply(r: Reply, out: &mut [u64; 17])
+    ensures { λ _. ⌜ now (out .exit) ≡ replyWords r ⌝ }
 {
-    five(11, 0, 0, 0, 0)
+    match r {
+        Reply::Piece {
+            qtag,
+            offset,
+            count,
+            buffer,
+        } => *out = five(1, qtag, offset.0, count, buffer),
+        Reply::Done { qtag } => *out = five(4, qtag, 0, 0, 0),
+        Reply::Flush { qtag, need } => *out = five(5, qtag, need, 0, 0),
+        _ => put_whole(r, out),
+    }
+}
+
+// The words of a code that names nothing, likewise.
+pub fn put_unknown(out: &mut [u64; 17])
+    ensures { λ _. ⌜ now (out .exit) ≡ unknownWords ⌝ }
+{
+    *out = five(11, 0, 0, 0, 0);
 }

@@ -15,8 +15,8 @@ answer-requires c κs = search needs
 enum-told : tie.Need-enum-told
 enum-told c = search needs
 
-unknown-words-requires : tie.Need-unknown-words-requires
-unknown-words-requires c κs = search needs
+put-unknown-requires : tie.Need-put-unknown-requires
+put-unknown-requires c κs = search needs
 
 same-length : tie.Need-same-length
 same-length c = search needs
@@ -43,8 +43,8 @@ returns c = rw (c .before .before .before .before .before .before .before .befor
 returns-2 : tie.Need-returns-2
 unfolding AnswersOut
 returns-2 c =
-    let is : c .before .before .before .before .before .before .before .before .before .args .asked ≡ Unknown = search needs in
-    rw is (refl, c .unknown-words .ensures)
+    let is : c .before .before .before .before .before .before .before .before .before .before .args .asked ≡ Unknown = search needs in
+    rw is (refl, c .put-unknown .ensures)
 
 pub asked-spec : {M : Type 1} → statement M
 asked-spec =
@@ -53,7 +53,7 @@ asked-spec =
     enum-known-asked
     answer-requires
     enum-told
-    unknown-words-requires
+    put-unknown-requires
     same-length
     same-length-2
     same-length-3

@@ -14,14 +14,14 @@ open-words-requires c κs = search needs
 enum-known-opened : tie.Need-enum-known-opened
 enum-known-opened c = search needs
 
-reply-words-requires : tie.Need-reply-words-requires
-reply-words-requires c κs = search needs
+put-whole-requires : tie.Need-put-whole-requires
+put-whole-requires c κs = search needs
 
 enum-known-opened-2 : tie.Need-enum-known-opened-2
 enum-known-opened-2 c = search needs
 
-reply-words-requires-2 : tie.Need-reply-words-requires-2
-reply-words-requires-2 c κs = search needs
+put-whole-requires-2 : tie.Need-put-whole-requires-2
+put-whole-requires-2 c κs = search needs
 
 same-length : tie.Need-same-length
 same-length c = search needs
@@ -40,9 +40,9 @@ same-length-5 c = search needs
 
 returns : tie.Need-returns
 returns c =
-    let p = c .before .before .before .before .before .before .before .before .before .before .before .before .before .before .before in
-    let a = c .before .before .before .before .before .before .before .before .before .before .before .before .before .before .before .before .before .before .before .before .before .before .before .before .before .before .before .before .before .args in
-    is-table _ _ (p .before .before .before .before .before .before .opening-of .ensures) (a .plan .now) (a .counts .now) (a .rows .now) (a .store .now) (a .free .now) (a .ready .now) (a .owners .now) (a .pool .now) (p .open-words .result) _ _ _ _ _ (p .open-words .ensures) _ (c .before .before .before .opened .given .1) _ _ refl (c .reply-words .ensures)
+    let p = c .before .before .before .before .before .before .before .before .before .before .before .before .before .before .before .before in
+    let a = c .before .before .before .before .before .before .before .before .before .before .before .before .before .before .before .before .before .before .before .before .before .before .before .before .before .before .before .before .before .before .args in
+    is-table _ _ (p .before .before .before .before .before .before .opening-of .ensures) (a .plan .now) (a .counts .now) (a .rows .now) (a .store .now) (a .free .now) (a .ready .now) (a .owners .now) (a .pool .now) (p .open-words .result) _ _ _ _ _ (p .open-words .ensures) _ (c .before .before .before .before .opened .given .1) _ _ refl (c .put-whole .ensures)
 
 same-length-6 : tie.Need-same-length-6
 same-length-6 c = search needs
@@ -61,9 +61,9 @@ same-length-10 c = search needs
 
 returns-2 : tie.Need-returns-2
 returns-2 c =
-    let p = c .before .before .before .before .before .before .before .before .before .before .before .before .before .before in
-    let a = c .before .before .before .before .before .before .before .before .before .before .before .before .before .before .before .before .before .before .before .before .before .before .before .before .before .before .before .before .args in
-    is-refused _ _ (p .before .before .before .before .before .before .opening-of .ensures) (a .plan .now) (a .counts .now) (a .rows .now) (a .store .now) (a .free .now) (a .ready .now) (a .owners .now) (a .pool .now) (p .open-words .result) _ _ _ _ _ (p .open-words .ensures) _ (c .before .before .opened2 .given .1) _ (c .reply-words2 .ensures)
+    let p = c .before .before .before .before .before .before .before .before .before .before .before .before .before .before .before in
+    let a = c .before .before .before .before .before .before .before .before .before .before .before .before .before .before .before .before .before .before .before .before .before .before .before .before .before .before .before .before .before .args in
+    is-refused _ _ (p .before .before .before .before .before .before .opening-of .ensures) (a .plan .now) (a .counts .now) (a .rows .now) (a .store .now) (a .free .now) (a .ready .now) (a .owners .now) (a .pool .now) (p .open-words .result) _ _ _ _ _ (p .open-words .ensures) _ (c .before .before .before .opened2 .given .1) _ (c .put-whole2 .ensures)
 
 pub table-open-spec : {M : Type 1} → statement M
 table-open-spec =
@@ -72,9 +72,9 @@ table-open-spec =
     opening-of-requires
     open-words-requires
     enum-known-opened
-    reply-words-requires
+    put-whole-requires
     enum-known-opened-2
-    reply-words-requires-2
+    put-whole-requires-2
     same-length
     same-length-2
     same-length-3

@@ -1,11 +1,11 @@
--- `replywords::reply_words` meets its contract: each arm knows the case, and the words are what the callees ensure.
+-- `replywords::put_whole` meets its contract: each arm knows the case, and the words are what the callees ensure.
 use mathlib.Core.Path.{_≡_, sym, ap, _∙_}
 use mathlib.Core.List.{[], _∷_}
 use Prim.Native.Nat.{ℕ}
 use Rattle.replywords.specs.ReplyWords.{filled, replyWords}
 use borrow.Author.Needs.{needs}
-use Rattle.replywords.proofs.reply_words.Statement.{statement}
-use Rattle.replywords.proofs.reply_words.Tie as tie
+use Rattle.replywords.proofs.put_whole.Statement.{statement}
+use Rattle.replywords.proofs.put_whole.Tie as tie
 
 enum-known-r : tie.Need-enum-known-r
 enum-known-r c = search needs
@@ -111,8 +111,8 @@ returns-10 : tie.Need-returns-10
 unfolding filled replyWords
 returns-10 c = c .five7 .ensures ∙ sym (ap replyWords (c .before .before .r8 .given .1))
 
-pub reply-words-spec : {M : Type 1} → statement M
-reply-words-spec =
+pub put-whole-spec : {M : Type 1} → statement M
+put-whole-spec =
     tie.close
     (tie.spec
     enum-known-r

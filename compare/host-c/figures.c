@@ -1,0 +1,67 @@
+/* Document 01's opening and its first figures, by a host in C:
+ *
+ *     rt staticlib entry && cc compare/host-c/figures.c target/staticlib/libentry.a -o figures && ./figures
+ *
+ * It prints nothing and ends with 0 where every reply is the paper's. */
+#include "table.h"
+
+static uint64_t counts[3], rows[16 * 2], store[48 + 70], free_rows[2], ready[1 + 16 * 2], owners[3], out[17];
+static uint8_t pool[3 * 2048];
+
+#define MINE counts, rows, 16 * 2, store, 48 + 70, free_rows, 2, ready, 1 + 16 * 2, owners, 3, pool, sizeof pool, out
+
+/* the reply begins with these words */
+static bool is(size_t n, const uint64_t *words)
+{
+    for (size_t i = 0; i < n; i++)
+        if (out[i] != words[i])
+            return false;
+    return true;
+}
+
+#define EXPECT(...) \
+    do { \
+        const uint64_t words[] = {__VA_ARGS__}; \
+        if (!is(sizeof words / sizeof words[0], words)) \
+            return __LINE__ % 100 + 1; \
+    } while (0)
+
+int main(void)
+{
+    const uint64_t opening[13] = {512, 2, 1000, 16384, 3, 2048, 0, 0, 1, 0, 0, 0, 1};
+    const uint64_t plan[70] = {7, 3, 1024, 2048, 2048, 1, 1024, 8192};
+    table_open(opening, plan, 70, MINE);
+    EXPECT(8);
+    const uint64_t request[9] = {0, 1, 7, 3, 512, 0, 1024, 0, 70};
+    table_write(request, MINE);
+    EXPECT(1, 0, 1536, 512, 0);
+    table_answer(0, 0, 512, 0, false, true, 0, MINE);
+    EXPECT(1, 0, 8192, 512, 0);
+    table_answer(0, 0, 512, 0, false, true, 0, MINE);
+    EXPECT(4, 0);
+    /* tag 70, written, region 7, 512 to 1,536, need 1; buffer 0 back with 1,024; generation 3 */
+    table_take(MINE);
+    EXPECT(6, 70, 1, 7, 512, 1536, 1, 0, 0, 0, 0, 1, 0, 1024, 3);
+    table_take(MINE);
+    EXPECT(7);
+    /* row 0 then gives tag 4,294,967,296 */
+    table_write(request, MINE);
+    EXPECT(1, 4294967296u, 1536, 512, 0);
+    /* the old tag is unknown: 14; the buffer is not held: 11; codes that name nothing: 11, and nothing changes */
+    table_answer(0, 0, 512, 0, false, true, 0, MINE);
+    EXPECT(2, 14, 0);
+    table_write(request, MINE);
+    EXPECT(2, 11, 1, 7);
+    table_set_gate(0, 3, MINE);
+    EXPECT(11);
+    table_answer(4294967296u, 9, 512, 0, false, true, 0, MINE);
+    EXPECT(11);
+    table_writes_live(MINE);
+    EXPECT(9, 1);
+    table_mark(MINE);
+    EXPECT(10, 3);
+    /* another length of row memory gets 13 first */
+    table_take(counts, rows, 15, store, 48 + 70, free_rows, 2, ready, 1 + 16 * 2, owners, 3, pool, sizeof pool, out);
+    EXPECT(2, 13);
+    return 0;
+}
