@@ -1,0 +1,128 @@
+-- How a line is answered once the table is open: TRACE.md's "Calls" and "Replies".
+use mathlib.Core.Path.{_≡_}
+use mathlib.Core.Bool.{Bool}
+use mathlib.Core.List.{List, [], map}
+use Prim.Native.Nat.{ℕ, _+_, _-_}
+use lib.ListN.{length, getD, take, drop}
+use Rattle.layout.specs.Pick.{pick}
+use Rattle.completion.specs.declared.Reply.{Reply}
+use Rattle.completion.specs.declared.Reply.the-variants.{Ok}
+use Rattle.model.specs.declared.Counts.{Counts}
+use Rattle.model.specs.declared.Row.{Row}
+use Rattle.model.specs.declared.Call.{Call}
+use Rattle.model.specs.declared.Call.the-variants.{Write, ReadPage, Answer, Flushed, Take, SetGate, SetReadOnly, SetForced, ReportPoison}
+use Rattle.model.specs.declared.Lookup.{Lookup}
+use Rattle.model.specs.declared.Lookup.the-variants.{WritesLive}
+use Rattle.model.specs.Memory.{Lent, settingsIn, stateIn}
+use Rattle.called.specs.Called.{CallsTo, LooksTo}
+use Rattle.lineforms.specs.declared.Said.{Said}
+use Rattle.lineforms.specs.declared.Said.the-variants.{Comment, Call as callSaid, Own, Count, Look, Len, Fill, Sum, Rows, Bad}
+use Rattle.linecalls.specs.declared.Named.{Named}
+use Rattle.linecalls.specs.declared.Asks.{Asks}
+use Rattle.linecalls.specs.declared.Asks.the-variants.{Nothing, Call as calls, Other}
+use Rattle.linecalls.specs.Asks.{asksOf}
+use Rattle.texts.specs.Texts.{badText}
+use Rattle.rowtexts.specs.Rows.{sumText, rowsText}
+use Rattle.replytexts.specs.Replay.{replayText}
+use Rattle.hostwrites.specs.Writes.{filled, sumOf, inPool, placeIn}
+use Rattle.mayfill.specs.MayFill.{mayFill, Open}
+
+-- what stands between two lines: "the flush count last given, 0 at first", the counts, and what is lent
+pub record Held : Type 0 where
+  pub flushes : ℕ
+  pub counts : Counts
+  pub lent : Lent
+
+-- "handle 0, with its own volume, id and generation": of the table's words (the model's Memory) the volume is the 8th, region 0's id and generation the
+-- 48th and the 49th
+unfoldable pub namedIn : List ℕ → Named
+namedIn store = record { volume = getD store 8 0; region = getD store 48 0; generation = getD store 49 0 }
+
+-- "the flush count last given": `A QTAG FLUSHES BACK ..` gives one
+unfoldable pub givenBy : Call → ℕ → ℕ
+givenBy (Write q) n = n
+givenBy (ReadPage q) n = n
+givenBy (Answer t a back flushes) n = flushes
+givenBy (Flushed t f) n = n
+givenBy Take n = n
+givenBy (SetGate h g) n = n
+givenBy (SetReadOnly h b) n = n
+givenBy (SetForced h b) n = n
+givenBy (ReportPoison c) n = n
+
+-- nothing is changed, and this is printed
+pub record Still (h h′ : Held) (text said : List ℕ) : Type 0 where
+  pub held : h′ ≡ h
+  pub prints : text ≡ said
+
+-- a call is made, and its reply printed
+pub record Ran (call : Call) (h h′ : Held) (text : List ℕ) : Type 0 where
+  pub reply : Reply
+  pub called : CallsTo call (h .counts) (h .lent) reply (h′ .counts) (h′ .lent)
+  pub flushes : h′ .flushes ≡ givenBy call (h .flushes)
+  pub prints : text ≡ replayText reply
+
+-- a lookup is made over what is lent, and its reply printed
+pub record Looks (x : Lookup) (lent : Lent) (h h′ : Held) (text : List ℕ) : Type 0 where
+  pub reply : Reply
+  pub looked : LooksTo x (h .counts) lent reply
+  pub held : h′ ≡ h
+  pub prints : text ≡ replayText reply
+
+-- `len`: "a lookup with another length of row memory": the free stack is lent without its last word
+unfoldable pub shorter : Lent → Lent
+shorter l = record { rows = l .rows; store = l .store; free = take (length (l .free) - 1) (l .free); ready = l .ready; owners = l .owners; pool = l .pool }
+
+-- `fill BUFFER AT LENGTH SEED`
+unfoldable pub filledIn : ℕ → ℕ → ℕ → ℕ → Held → Held
+filledIn b at n seed h =
+    record {
+      flushes = h .flushes;
+      counts = h .counts;
+      lent = record {
+        rows = h .lent .rows;
+        store = h .lent .store;
+        free = h .lent .free;
+        ready = h .lent .ready;
+        owners = h .lent .owners;
+        pool = filled (placeIn (settingsIn (h .lent .store) .capacity) b at) n seed (h .lent .pool);
+      };
+    }
+
+-- .. which "is `bad`" where the host may not write
+pub record Fills (b at n seed number : ℕ) (h h′ : Held) (text : List ℕ) : Type 0 where
+  pub may : Bool
+  pub may-is : Open (h .counts) (h .lent) → may ≡ mayFill (stateIn (h .counts) (h .lent)) b at n
+  pub held : h′ ≡ pick may (filledIn b at n seed h) h
+  pub prints : text ≡ pick may (replayText Ok) (badText number)
+
+-- `sum BUFFER AT LENGTH`; "so is `sum` outside the pool"
+unfoldable pub summed : ℕ → ℕ → ℕ → ℕ → Lent → List ℕ
+summed b at n number l =
+    let o = settingsIn (l .store) in
+    pick (inPool (o .buffers) (o .capacity) (l .pool) b at n) (sumText (sumOf (take n (drop (placeIn (o .capacity) b at) (l .pool))))) (badText number)
+
+-- `rows`: "generations and free stack", "top of the stack first", of every open table
+pub record Lists (h h′ : Held) (text : List ℕ) : Type 0 where
+  pub held : h′ ≡ h
+  pub prints : Open (h .counts) (h .lent)
+      → text ≡ rowsText (map (λ (r : Row). r .generation) (stateIn (h .counts) (h .lent) .rows)) (stateIn (h .counts) (h .lent) .free)
+
+-- what a line of calls asks for: "A line that starts with `#` is passed over"; another form "prints `bad` and its number in the file, from 1, and changes nothing"
+unfoldable pub Asked : Asks → ℕ → Held → Held → List ℕ → Type 0
+Asked Nothing number h h′ text = Still h h′ text []
+Asked (calls c) number h h′ text = Ran c h h′ text
+Asked Other number h h′ text = Still h h′ text (badText number)
+
+-- a line's answer; `a`, `w` and `r` ask for the call that the last flush count and handle 0 make of them
+unfoldable pub Answers : Said → ℕ → Held → Held → List ℕ → Type 0
+Answers Comment number h h′ text = Still h h′ text []
+Answers (callSaid c) number h h′ text = Ran c h h′ text
+Answers (Own write b p n durable tag) number h h′ text = Asked (asksOf (Own write b p n durable tag) (namedIn (h .lent .store)) (h .flushes)) number h h′ text
+Answers (Count t n) number h h′ text = Asked (asksOf (Count t n) (namedIn (h .lent .store)) (h .flushes)) number h h′ text
+Answers (Look x) number h h′ text = Looks x (h .lent) h h′ text
+Answers Len number h h′ text = Looks WritesLive (shorter (h .lent)) h h′ text
+Answers (Fill b at n seed) number h h′ text = Fills b at n seed number h h′ text
+Answers (Sum b at n) number h h′ text = Still h h′ text (summed b at n number (h .lent))
+Answers Rows number h h′ text = Lists h h′ text
+Answers Bad number h h′ text = Still h h′ text (badText number)
