@@ -64,7 +64,7 @@ module _ (x : Start) (h : List Event) (e : Event) (t : ℕ) (q : Request) where
       let z = along x h e t q (a .hosted) k g refl refl (take (q .length) same) (old-length x h e t q (a .hosted) k g) (λ page. refl) card (λ reads. absurd (not-both refl reads)) es served in
       record {
         arrived = λ i lt. z .arrived pieces i lt ∙ getD-take (q .length) same i 0 lt;
-        buffer = λ c bytes more got. let y = z .completed c bytes more got in (y .0 ∙ take-append-drop (q .length) same, y .1 .buf, y .1 .tag);
+        buffer = λ c bytes more got. let y = z .completed c bytes more got in (y .0 ∙ take-append-drop (q .length) same, y .1 .buf, y .1 .tag, y .1 .wrote refl);
       }
 
   read : Accepted x h e t q (calls (ReadPage q)) → (card : Card) (es : List Event) → Served (begun x h e) es t q card → DidRead x h e t q card es

@@ -1,6 +1,6 @@
 -- An accepted submission: the operation stands at the start of its range, and its buffer is as at acceptance.
 use mathlib.Core.Path.{_≡_, refl, sym, ap, _∙_, subst}
-use mathlib.Core.Bool.{true, false}
+use mathlib.Core.Bool.{Bool, true, false}
 use mathlib.Core.Option.{some}
 use mathlib.Core.List.{List, [], _∷_, _++_}
 use Prim.Native.Nat.{ℕ, _+_, _≤_, _<_, _^_}
@@ -8,6 +8,7 @@ use native.Mathlib.Nat.{add-left-cancel}
 use native.Mathlib.Omega.{arith}
 use lib.ListN.{length, take, drop, getD, take-append-drop}
 use lib.Seq.{length-take-le, getD-set-same}
+use Rattle.layout.proofs.Tests.{not-both}
 use Rattle.regionmap.specs.Map.{Map, place}
 use Rattle.iobuf.specs.Turn.{stretch}
 use Rattle.posix.specs.Posix.{Card}
@@ -25,7 +26,7 @@ use Rattle.model.specs.State.{State, freed}
 use Rattle.model.specs.Opening.{Plan}
 use Rattle.step.specs.Questions.{regionAt}
 use Rattle.step.specs.Rules.{firstOf, lastOf}
-use Rattle.step.specs.Step.{startOf, endOf, queueTag, topOf, rowAt, rowOf, generationOf, isLive, bytesAt, planOf, claimedBy, accepted, submitted, verdictOf, writeVerdict, readVerdict, called, eqLengths, step}
+use Rattle.step.specs.Step.{startOf, endOf, durableAs, queueTag, topOf, rowAt, rowOf, generationOf, isLive, bytesAt, planOf, claimedBy, accepted, submitted, verdictOf, writeVerdict, readVerdict, called, eqLengths, step}
 use Rattle.step.specs.Sound.{Sound}
 use Rattle.step.specs.Laws.{Made.calls, Event, leave, done, next, run}
 use Rattle.step.specs.Lists.{HostMay, Hosted}
@@ -39,7 +40,7 @@ use Rattle.step.proofs.Buffers.{bytes-length}
 use Rattle.step.proofs.Histories.{leaves, keeps-next}
 use Rattle.step.proofs.Laws.{keeps}
 use Rattle.step.proofs.AloneTags.{clash, small-row, row-of-tag, generation-of-tag, names-by}
-use Rattle.step.proofs.ProjectionFixed.{Fixed, next-plans}
+use Rattle.step.proofs.ProjectionFixed.{Fixed, fixed-next, next-plans}
 use Rattle.step.proofs.ProjectionReached.{Reached}
 use Rattle.step.proofs.Projection.{reached-after}
 use Rattle.step.proofs.Demand2Fate.{pages}
@@ -86,6 +87,12 @@ module _ (x : Start) (h : List Event) (e : Event) (hosted : Hosted (openedBy x) 
 
 -- ---- the operation
 
+-- a write keeps its durable mark
+durable-is : (k : Kind) (d : Bool) → pages k ≡ true → durableAs k d ≡ d
+unfolding pages durableAs
+durable-is (Page a b) d page = refl
+durable-is (Read a b) d page = absurd (not-both page refl)
+
 module _ (x : Start) (s : State) (sound : Sound s) (fixed : Fixed x s) (e : Event) (host : HostMay s (e .leaves)) (q : Request) (k : Kind) (t : ℕ) (g : Begun (leave s (e .leaves)) q k t (done (leave s (e .leaves)) (e .lengths) (e .made))) where
   abbrev s₁ : State
   s₁ = leave s (e .leaves)
@@ -126,6 +133,8 @@ module _ (x : Start) (s : State) (sound : Sound s) (fixed : Fixed x s) (e : Even
     task = record {
       tag = t;
       request = q;
+      opening = x .opening;
+      plan = planOf (regionAt s (q .handle));
       map = m;
       kind = k;
       new = new;
@@ -161,6 +170,7 @@ module _ (x : Start) (s : State) (sound : Sound s) (fixed : Fixed x s) (e : Even
       handle = refl;
       buffer = refl;
       tag = refl;
+      durable = durable-is k (q .durable);
       stage = piece refl (g .passed .some);
     }
 
@@ -173,6 +183,8 @@ module _ (x : Start) (s : State) (sound : Sound s) (fixed : Fixed x s) (e : Even
     opens card reads = record {
       sound = keeps-next keeps s e sound (host .count);
       in-row = subst (λ (r : Row). InRow task r 0) (sym row-is) in-row;
+      settings-are = fixed-next x s e fixed .settings;
+      plan-is = next-plans s e (q .handle);
       map-is = ap (λ (p : Plan). p .map) (next-plans s e (q .handle));
       bytes = ap (drop (hostsOf task 0)) (bytes-are ∙ sym (take-append-drop (q .length) then));
       card-is = λ i. by-pick (pages k) (λ (n : ℕ). i < n → card (place m (q .offset .0 + i)) ≡ getD new i 0) (λ page lt. absurd (omega (arith, lt))) (λ read lt. reads read i lt);

@@ -25,6 +25,7 @@ use Rattle.completion.specs.declared.Outcome.the-variants.{Read as readTo}
 use Rattle.completion.specs.declared.Buffer.the-variants.{Back}
 use Rattle.completion.specs.declared.Completion.{Completion}
 use Rattle.completion.specs.declared.WriteTicket.{WriteTicket}
+use Rattle.model.specs.declared.Opening.{Opening}
 use Rattle.model.specs.declared.Kind.{Kind}
 use Rattle.model.specs.declared.Kind.the-variants.{Page, Read}
 use Rattle.model.specs.declared.Lengths.{Lengths}
@@ -35,17 +36,17 @@ use Rattle.model.specs.declared.Row.{Row}
 use Rattle.model.specs.State.{State, freed}
 use Rattle.model.specs.Opening.{Plan}
 use Rattle.step.specs.Questions.{regionAt}
-use Rattle.step.specs.Rules.{firstOf, lastOf, pieceLength, isWhole, splitAfter, Input, Input.answered, Input.flushed, Fate, Fate.away, Fate.awaits, Fate.ends, answerRules, flushRules, flushEnds, flushOutcome, rules}
+use Rattle.step.specs.Rules.{firstOf, pieceLength, isWhole, splitAfter, Input, Input.answered, Input.flushed, Fate, Fate.away, Fate.awaits, Fate.ends, answerRules, flushRules, flushEnds, flushOutcome, ticketOf, rules}
 use Rattle.step.specs.Step.{rowAt, rowOf, isLive, names, bytesAt, raised, awaitsNow, completionOf, planOf, going, freeing, settled, fateOf, underTag, eqLengths}
 use Rattle.step.specs.Sound.{Sound}
 use Rattle.step.specs.Laws.{Made, Made.calls, Made.looks, Event, leave, done, next, replyTo}
 use Rattle.step.specs.Lists.{brought, isAway, planAt, Completed, withBytes, addedBy, isBrought, takesWhole, wroteBy, tagIn, cardBy, HostMay}
-use Rattle.step.specs.Demand2.{WholeTo, TakenWhole, Undisturbed}
+use Rattle.step.specs.Demand2.{WholeTo, TakenWhole, Undisturbed, WroteAs, WroteAs.by-flush}
 use Rattle.step.proofs.Picked.{by-pick}
 use Rattle.step.proofs.Away.{turned-away}
 use Rattle.step.proofs.AloneTags.{clash, live-in, names-live, names-generation, names-by}
 use Rattle.step.proofs.Buffers.{bytes-length}
-use Rattle.step.proofs.Histories.{leaves, keeps-next}
+use Rattle.step.proofs.Histories.{leaves, keeps-next, done-stays}
 use Rattle.step.proofs.Laws.{keeps}
 use Rattle.step.proofs.Fates.{Fitting, FateFits, fate-fits}
 use Rattle.step.proofs.CardBytes.{wrote-none}
@@ -56,7 +57,7 @@ use Rattle.step.proofs.ProjectionSet.{Changed, row-here, bytes-here}
 use Rattle.step.proofs.Demand2Others.{wrote-unless, pool-others, other-row, done-row}
 use Rattle.step.proofs.Demand2Bytes.{lying, lying-last, turned-on, turned-last, piece-written}
 use Rattle.step.proofs.Demand2Fate.{pages, Whole, Whole.next-piece, Whole.its-flush, Whole.completes, answer-whole}
-use Rattle.step.proofs.Demand2Task.{Task, mappedTo, splitOf, sizeOf, hostsOf, onCard, Stage, Stage.piece, Stage.flush, InRow, Open, piece-ends, consecutive, piece-place, piece-size, loose-is, is-new}
+use Rattle.step.proofs.Demand2Task.{Task, mappedTo, splitOf, sizeOf, hostsOf, onCard, ItsTicket, Stage, Stage.piece, Stage.flush, InRow, Open, piece-ends, consecutive, piece-place, piece-size, loose-is, is-new}
 
 -- ---- an event that is turned away, or not
 
@@ -124,6 +125,7 @@ pub record Finished (w : Task) (c : Completion) : Type 0 where
   pub buf : c .buf ≡ Back (w .request .buffer) (w .request .length)
   pub tag : c .tag ≡ w .request .tag
   pub outcome : pages (w .kind) ≡ false → c .outcome ≡ readTo (w .request .length)
+  pub wrote : pages (w .kind) ≡ true → WroteAs (w .opening) (w .plan) (w .kind) (w .request .durable) (c .outcome)
 
 -- what the operation gets of the event
 abbrev pub getsOf : State → Event → ℕ → ℕ → List Completed
@@ -149,11 +151,13 @@ on-card-most w d i most = by-pick (pages (w .kind)) (λ (n : ℕ). i < n → i <
 pub on-card-all : (w : Task) (d i : ℕ) → d ≡ w .request .length → i < w .request .length → i < onCard w d
 on-card-all w d i all lt = by-pick (pages (w .kind)) (λ (n : ℕ). i < n) (λ page. omega (arith, all, lt)) (λ reads. lt)
 
-ticket-length : (w : Task) (t : WriteTicket) → t .start ≡ firstOf (w .kind) → t .end ≡ lastOf (w .kind) → t .end .0 - t .start .0 ≡ w .request .length
-ticket-length w t start end =
-    let a : t .start .0 ≡ w .request .offset .0 = ap (λ (p : Position). p .0) (start ∙ w .first) in
-    let z : t .end .0 ≡ w .request .offset .0 + w .request .length = ap (λ (p : Position). p .0) end ∙ w .last in
-    omega (arith, a, z)
+-- the ticket with which a write awaits its flush
+its-ticket : (w : Task) (flushes : ℕ) → w .request .durable ≡ true → ItsTicket w (ticketOf (w .opening) (w .plan) (w .kind) flushes)
+unfolding ticketOf
+its-ticket w flushes durable =
+    let a : firstOf (w .kind) .0 ≡ w .request .offset .0 = ap (λ (p : Position). p .0) (w .first) in
+    let z = w .last in
+    record { long = omega (arith, a, z); flushes = flushes; is = refl; durable = durable }
 
 -- what a whole piece writes, of a write and of a read
 wrote-page : (g : Plan) (k : Kind) (sp : Split) (bytes : List ℕ) (x : Answer) (back : Bool) (flushes : ℕ) (card : Card) → pages k ≡ true → isWhole (pieceLength g k sp) x ≡ true
@@ -197,6 +201,13 @@ module _ (w : Task) (s : State) (card : Card) (d : ℕ) (o : Open w s card d) (e
   unfolding planOf
   map-next = ap (λ (g : Plan). g .map) (next-plans s e (w .request .handle)) ∙ o .map-is
 
+  settings-next : next s e .settings ≡ w .opening
+  unfolding next leave
+  settings-next = done-stays left (e .lengths) (e .made) .settings ∙ o .settings-are
+
+  plan-next : planOf (regionAt (next s e) (w .request .handle)) ≡ w .plan
+  plan-next = next-plans s e (w .request .handle) ∙ o .plan-is
+
   live : isLive (r .awaits) ≡ true
   live = names-live r t (o .in-row .named)
 
@@ -218,6 +229,8 @@ module _ (w : Task) (s : State) (card : Card) (d : ℕ) (o : Open w s card d) (e
   stays row bytes same = record {
     sound = sound-next;
     in-row = subst (λ (x : Row). InRow w x d) (sym row) (o .in-row);
+    settings-are = settings-next;
+    plan-is = plan-next;
     map-is = map-next;
     bytes = ap (drop (hostsOf w d)) bytes ∙ bytes-left;
     card-is = λ i lt. same i (on-card-most w d i (stage-most w d (r .awaits) (o .in-row .stage)) lt) ∙ o .card-is i lt;
@@ -336,8 +349,11 @@ module _ (w : Task) (s : State) (card : Card) (d : ℕ) (o : Open w s card d) (e
                   handle = o .in-row .handle;
                   buffer = o .in-row .buffer;
                   tag = o .in-row .tag;
+                  durable = o .in-row .durable;
                   stage = stage;
                 });
+            settings-are = settings-next;
+            plan-is = plan-next;
             map-is = map-next;
             bytes = ap (drop (hostsOf w d′)) there ∙ held;
             card-is = same;
@@ -346,9 +362,10 @@ module _ (w : Task) (s : State) (card : Card) (d : ℕ) (o : Open w s card d) (e
 
       -- it completes
       ends-with : (x : Outcome) (n : ℕ) (bytes : List ℕ) → f ≡ ends x (Back (r .buffer) n) bytes none → n ≡ w .request .length → bytes ≡ w .new ++ w .tail
-          → (pages (w .kind) ≡ false → x ≡ readTo (w .request .length)) → Arrived w (cardBy s e card) → Came w s card e
+          → (pages (w .kind) ≡ false → x ≡ readTo (w .request .length)) → (pages (w .kind) ≡ true → WroteAs (w .opening) (w .plan) (w .kind) (w .request .durable) x)
+          → Arrived w (cardBy s e card) → Came w s card e
       unfolding settled freeing Fitting completionOf withBytes addedBy names leave
-      ends-with x n bytes q all new outcome arrived =
+      ends-with x n bytes q all new outcome wrote arrived =
           let to = settled left t r (ends x (Back (r .buffer) n) bytes none) .0 in
           let z = next-is (ends x (Back (r .buffer) n) bytes none) q in
           let gone = freed (raised (r .generation)) in
@@ -358,7 +375,7 @@ module _ (w : Task) (s : State) (card : Card) (d : ℕ) (o : Open w s card d) (e
           let row : rowAt (next s e) (rowOf t) ≡ gone = ap (λ (y : State). rowAt y (rowOf t)) z ∙ row-here left to (rowOf t) (r .buffer) gone bytes ch in-rows in
           let there : bytesAt (next s e) b ≡ bytes = (λ j. bytesAt (z j) (sym (o .in-row .buffer) j)) ∙ bytes-here left to (rowOf t) (r .buffer) gone bytes ch sound-left in-pool long in
           over (ap (λ (y : Row). names y t) row ∙ freed-unnamed (raised (r .generation))) arrived c
-          (record { buf = (λ j. Back (o .in-row .buffer j) (all j)); tag = o .in-row .tag; outcome = outcome })
+          (record { buf = (λ j. Back (o .in-row .buffer j) (all j)); tag = o .in-row .tag; outcome = outcome; wrote = wrote })
           (gets-with (c ∷ []) (ap (λ (y : State). drop (length (s .ready)) (y .ready)) z ∙ drop-append-seam (s .ready) (c ∷ [])) (w .new ++ w .tail) (there ∙ new))
         where
           freed-unnamed : (g : ℕ) → names (freed g) t ≡ false
@@ -381,7 +398,7 @@ module _ (w : Task) (s : State) (card : Card) (d : ℕ) (o : Open w s card d) (e
         unfolding TakenWhole
         new-is = is-new w left r d (o .in-row) map-left at more card bytes-left (o .card-is) (taken i bt heard .1)
 
-        its-whole : Whole r (w .kind) (splitOf w d) n bytes f
+        its-whole : Whole (w .opening) (w .plan) r (w .kind) (splitOf w d) n bytes f
         unfolding fateOf rules answerRules planAt regionAt leave
         its-whole =
             let g = planAt s r in
@@ -389,9 +406,11 @@ module _ (w : Task) (s : State) (card : Card) (d : ℕ) (o : Open w s card d) (e
             let now = bytesAt left (r .buffer) in
             let fate : f ≡ answerRules (s .settings) g forced (s .poison) r now x back flushes (Piece (w .kind) (splitOf w d)) =
             ap (fateOf left r) is ∙ ap (answerRules (s .settings) g forced (s .poison) r now x back flushes) at in
-            subst₂ (λ (m : ℕ) (l : List ℕ). Whole r (w .kind) (splitOf w d) m l f) (piece-size w s r (o .in-row .handle) (o .map-is) d) (ap (bytesAt left) (o .in-row .buffer))
-            (subst (Whole r (w .kind) (splitOf w d) (pieceLength g (w .kind) (splitOf w d)) now) (sym fate)
-            (answer-whole (s .settings) g forced (s .poison) r (splitOf w d) now (w .kind) x back flushes more (is-whole .0) (is-whole .1)))
+            let its : g ≡ w .plan = ap (λ (h : ℕ). planOf (regionAt s h)) (o .in-row .handle) ∙ o .plan-is in
+            subst₂ (λ (so : Opening) (p : Plan). Whole so p r (w .kind) (splitOf w d) n bytes f) (o .settings-are) its
+            (subst₂ (λ (m : ℕ) (l : List ℕ). Whole (s .settings) g r (w .kind) (splitOf w d) m l f) (piece-size w s r (o .in-row .handle) (o .map-is) d) (ap (bytesAt left) (o .in-row .buffer))
+            (subst (Whole (s .settings) g r (w .kind) (splitOf w d) (pieceLength g (w .kind) (splitOf w d)) now) (sym fate)
+            (answer-whole (s .settings) g forced (s .poison) r (splitOf w d) now (w .kind) x back flushes more (is-whole .0) (is-whole .1))))
 
         -- on the card
         card-after : (j : ℕ) → j < onCard w (d + n) → cardBy s e card (mappedTo w j) ≡ getD (w .new) j 0
@@ -414,20 +433,21 @@ module _ (w : Task) (s : State) (card : Card) (d : ℕ) (o : Open w s card d) (e
                 ap (λ (after : Card). after (mappedTo w j)) (came-to ∙ wrote-read (planAt s r) (w .kind) (splitOf w d) (bytesAt left b) (some (answered x back flushes)) card reads)
                 ∙ o .card-is j (rw reads (rw reads at lt))
 
-        came-whole : Whole r (w .kind) (splitOf w d) n bytes f → Came w s card e
+        came-whole : Whole (w .opening) (w .plan) r (w .kind) (splitOf w d) n bytes f → Came w s card e
         unfolding splitAfter pick
         came-whole (next-piece lt q) =
             goes-on _ _ (d + n) q (piece refl lt)
             (ap (drop (hostsOf w (d + n))) (turned-on (w .new) (w .old) (w .tail) (w .request .length) (w .long-new) (w .long-old) d n (piece-ends w d more) bytes (new-is .0) (new-is .1))) card-after
-        came-whole (its-flush page all tk start end q) =
-            goes-on _ _ (w .request .length) q (flush tk refl page refl (ticket-length w tk start end))
+        came-whole (its-flush page durable all given q) =
+            goes-on _ _ (w .request .length) q (flush _ refl page refl (its-ticket w given (sym (o .in-row .durable page) ∙ durable)))
             (ap (drop (hostsOf w (w .request .length)))
             (turned-last (w .new) (w .old) (w .tail) (w .request .length) (w .long-new) (w .long-old) d n (piece-ends w d more) bytes (new-is .0) (new-is .1) all
             ∙ sym (lying-last (w .new) (w .old) (w .tail) (w .request .length) (w .long-new) (w .long-old))))
             (subst (λ (m : ℕ). (j : ℕ) → j < onCard w m → cardBy s e card (mappedTo w j) ≡ getD (w .new) j 0) all card-after)
-        came-whole (completes all y outcome q) =
+        came-whole (completes all y outcome wrote q) =
             ends-with y (w .request .length) _ q refl
             (turned-last (w .new) (w .old) (w .tail) (w .request .length) (w .long-new) (w .long-old) d n (piece-ends w d more) bytes (new-is .0) (new-is .1) all) outcome
+            (λ page. subst (λ (durable : Bool). WroteAs (w .opening) (w .plan) (w .kind) durable y) (o .in-row .durable page) (wrote page))
             (λ j lt. card-after j (on-card-all w (d + n) j all lt))
 
         came-piece : Came w s card e
@@ -435,15 +455,16 @@ module _ (w : Task) (s : State) (card : Card) (d : ℕ) (o : Open w s card d) (e
 
       -- ---- a flush result
 
-      module _ (tk : WriteTicket) (at : r .awaits ≡ Flush tk) (page : pages (w .kind) ≡ true) (all : d ≡ w .request .length) (long : tk .end .0 - tk .start .0 ≡ w .request .length) (result : Flushed) (is : i ≡ flushed result) where
+      module _ (tk : WriteTicket) (at : r .awaits ≡ Flush tk) (page : pages (w .kind) ≡ true) (all : d ≡ w .request .length) (its : ItsTicket w tk) (result : Flushed) (is : i ≡ flushed result) where
         came-flush : Came w s card e
-        unfolding fateOf rules flushRules flushEnds wroteBy pick
+        unfolding fateOf rules flushRules flushEnds wroteBy pick leave
         came-flush =
             let held : bytesAt left b ≡ lies d = rw page at bytes-left in
             ends-with (flushOutcome (left .settings) tk result) (tk .end .0 - tk .start .0) (bytesAt left (r .buffer))
-            (ap (fateOf left r) is ∙ ap (flushRules (left .settings) r (bytesAt left (r .buffer)) result) at) long
+            (ap (fateOf left r) is ∙ ap (flushRules (left .settings) r (bytesAt left (r .buffer)) result) at) (its .long)
             (ap (bytesAt left) (o .in-row .buffer) ∙ held ∙ ap lies all ∙ lying-last (w .new) (w .old) (w .tail) (w .request .length) (w .long-new) (w .long-old))
             (λ reads. absurd (not-both page reads))
+            (λ writes. by-flush (its .durable) (its .flushes) result (λ j. flushOutcome (o .settings-are j) (its .is j) result))
             (λ j lt. ap (λ (after : Card). after (mappedTo w j)) (card-own ∙ ap (λ (a : Awaits). wroteBy (planAt s r) a (bytesAt left (r .buffer)) (some i) card) at)
             ∙ o .card-is j (on-card-all w d j all lt))
 

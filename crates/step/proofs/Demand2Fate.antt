@@ -14,7 +14,6 @@ use Rattle.iobuf.specs.Turn.{turned}
 use Rattle.domain.specs.declared.Poisoned.{Poisoned}
 use Rattle.platform.specs.declared.Answer.{Answer}
 use Rattle.platform.specs.declared.Answer.the-variants.{Count, Error, Refused, RefusedWith}
-use Rattle.completion.specs.declared.WriteTicket.{WriteTicket}
 use Rattle.completion.specs.declared.Outcome.{Outcome}
 use Rattle.completion.specs.declared.Outcome.the-variants.{Read as readTo}
 use Rattle.completion.specs.declared.Buffer.the-variants.{Back}
@@ -25,7 +24,8 @@ use Rattle.model.specs.declared.Split.{Split}
 use Rattle.model.specs.declared.Awaits.the-variants.{Piece, Flush}
 use Rattle.model.specs.declared.Row.{Row}
 use Rattle.model.specs.Opening.{Plan}
-use Rattle.step.specs.Rules.{firstOf, lastOf, pieceLength, Fate, Fate.awaits, Fate.ends, bufferAs, turnedBack, isWritten, readOutcome, readLength, ticketOf, writtenAs, lastPiece, abovePiece, firstRefused, isRefusal, isWhole, goesOn, splitAfter, pieceAnswered}
+use Rattle.step.specs.Rules.{pieceLength, Fate, Fate.awaits, Fate.ends, bufferAs, turnedBack, isWritten, readOutcome, readLength, ticketOf, writtenAs, lastPiece, abovePiece, firstRefused, isRefusal, isWhole, goesOn, splitAfter, pieceAnswered}
+use Rattle.step.specs.Demand2.{WroteAs, WroteAs.plain, WroteAs.without-flush}
 use Rattle.step.proofs.Picked.{by-pick}
 use Rattle.step.proofs.Fates.{goes-on-left}
 use Rattle.step.proofs.QuietRules.{piece-most}
@@ -35,11 +35,11 @@ unfoldable pub pages : Kind → Bool
 pages (Page a b) = true
 pages (Read a b) = false
 
-module _ (r : Row) (k : Kind) (sp : Split) (n : ℕ) (bytes : List ℕ) (f : Fate) where
+module _ (o : Opening) (g : Plan) (r : Row) (k : Kind) (sp : Split) (n : ℕ) (bytes : List ℕ) (f : Fate) where
   pub data Whole : Type 0 where
     next-piece : sp .done + n < sp .total → f ≡ awaits (Piece k (splitAfter n sp)) (turned (sp .total) n bytes) → Whole
-    its-flush : pages k ≡ true → sp .done + n ≡ sp .total → (t : WriteTicket) → t .start ≡ firstOf k → t .end ≡ lastOf k → f ≡ awaits (Flush t) (turned (sp .total) (sp .total - sp .done) bytes) → Whole
-    completes : sp .done + n ≡ sp .total → (o : Outcome) → (pages k ≡ false → o ≡ readTo (sp .total)) → f ≡ ends o (Back (r .buffer) (sp .total)) (turned (sp .total) (sp .total - sp .done) bytes) none → Whole
+    its-flush : pages k ≡ true → r .durable ≡ true → sp .done + n ≡ sp .total → (flushes : ℕ) → f ≡ awaits (Flush (ticketOf o g k flushes)) (turned (sp .total) (sp .total - sp .done) bytes) → Whole
+    completes : sp .done + n ≡ sp .total → (x : Outcome) → (pages k ≡ false → x ≡ readTo (sp .total)) → (pages k ≡ true → WroteAs o g k (r .durable) x) → f ≡ ends x (Back (r .buffer) (sp .total)) (turned (sp .total) (sp .total - sp .done) bytes) none → Whole
 
 whole-count : (n : ℕ) (x : Answer) → isWhole n x ≡ true → x ≡ Count n
 unfolding isWhole
@@ -50,25 +50,26 @@ whole-count n (RefusedWith e media) w = absurd (not-both w refl)
 
 module _ (o : Opening) (g : Plan) (forced : Bool) (first : Poisoned) (r : Row) (sp : Split) (bytes : List ℕ) where
   -- the last piece
-  last-whole : (k : Kind) (n flushed : ℕ) → sp .done + n ≡ sp .total → Whole r k sp n bytes (lastPiece o g forced first r k sp bytes (Count n) true flushed)
-  unfolding lastPiece readOutcome readLength bufferAs turnedBack isWritten writtenAs ticketOf firstOf lastOf pages pick
-  last-whole (Read a b) n flushed e = completes e (readTo (sp .done + n)) (λ z. ap readTo e) (ap (λ (l : ℕ). ends (readTo (sp .done + n)) (Back (r .buffer) l) (turned (sp .total) (sp .total - sp .done) bytes) none) e)
+  last-whole : (k : Kind) (n flushed : ℕ) → sp .done + n ≡ sp .total → Whole o g r k sp n bytes (lastPiece o g forced first r k sp bytes (Count n) true flushed)
+  unfolding lastPiece readOutcome readLength bufferAs turnedBack isWritten writtenAs pages pick
+  last-whole (Read a b) n flushed e = completes e (readTo (sp .done + n)) (λ z. ap readTo e) (λ z. absurd (not-both z refl)) (ap (λ (l : ℕ). ends (readTo (sp .done + n)) (Back (r .buffer) l) (turned (sp .total) (sp .total - sp .done) bytes) none) e)
   last-whole (Page a b) n flushed e =
-      by-pick _ (Whole r (Page a b) sp n bytes)
-      (λ w. by-pick (r .durable) (Whole r (Page a b) sp n bytes)
-      (λ d. by-pick (o .flush || forced) (Whole r (Page a b) sp n bytes) (λ z. its-flush refl e (ticketOf o g (Page a b) flushed) refl refl refl) (λ z. completes e _ (λ y. absurd (not-both refl y)) refl))
-      (λ d. completes e _ (λ y. absurd (not-both refl y)) refl))
+      by-pick _ (Whole o g r (Page a b) sp n bytes)
+      (λ w. by-pick (r .durable) (Whole o g r (Page a b) sp n bytes)
+      (λ d. by-pick (o .flush || forced) (Whole o g r (Page a b) sp n bytes) (λ z. its-flush refl d e flushed refl)
+      (λ z. completes e _ (λ y. absurd (not-both refl y)) (λ y. without-flush d flushed first refl) refl))
+      (λ d. completes e _ (λ y. absurd (not-both refl y)) (λ y. plain d flushed refl) refl))
       (λ w. absurd (not-both (and-both _ true (eq-eqb (sp .done + n) (sp .total) e) refl) w))
 
-  count-whole : (k : Kind) (flushed : ℕ) → sp .done < sp .total → Whole r k sp (pieceLength g k sp) bytes (pieceAnswered o g forced first r k sp (pieceLength g k sp) bytes (Count (pieceLength g k sp)) true flushed)
+  count-whole : (k : Kind) (flushed : ℕ) → sp .done < sp .total → Whole o g r k sp (pieceLength g k sp) bytes (pieceAnswered o g forced first r k sp (pieceLength g k sp) bytes (Count (pieceLength g k sp)) true flushed)
   unfolding pieceAnswered abovePiece firstRefused isRefusal goesOn isWhole
   count-whole k flushed left =
       let n = pieceLength g k sp in
-      by-pick _ (Whole r k sp n bytes) (λ above. absurd (not-both above (le-ltb n n (omega arith))))
-      (λ above. by-pick _ (Whole r k sp n bytes) (λ refused. absurd (not-both (and-right (eqb (sp .done) 0) false refused) refl))
-      (λ refused. by-pick (goesOn n sp (Count n) true) (Whole r k sp n bytes) (λ on. next-piece (goes-on-left n sp (Count n) true on) refl)
+      by-pick _ (Whole o g r k sp n bytes) (λ above. absurd (not-both above (le-ltb n n (omega arith))))
+      (λ above. by-pick _ (Whole o g r k sp n bytes) (λ refused. absurd (not-both (and-right (eqb (sp .done) 0) false refused) refl))
+      (λ refused. by-pick (goesOn n sp (Count n) true) (Whole o g r k sp n bytes) (λ on. next-piece (goes-on-left n sp (Count n) true on) refl)
       (λ on. last-whole k n flushed (let most = piece-most g k sp in let all : sp .total ≤ sp .done + n = ltb-false (sp .done + n) (sp .total) (rw (eq-eqb n n refl) at on) in omega (arith, most, all, left)))))
 
   pub answer-whole : (k : Kind) (x : Answer) (back : Bool) (flushed : ℕ) → sp .done < sp .total → isWhole (pieceLength g k sp) x ≡ true → back ≡ true
-      → Whole r k sp (pieceLength g k sp) bytes (pieceAnswered o g forced first r k sp (pieceLength g k sp) bytes x back flushed)
+      → Whole o g r k sp (pieceLength g k sp) bytes (pieceAnswered o g forced first r k sp (pieceLength g k sp) bytes x back flushed)
   answer-whole k x back flushed left whole here = rw (whole-count _ x whole, here) (count-whole k flushed left)

@@ -14,6 +14,7 @@ use Rattle.regionmap.specs.Laws.{Lawful, OnePiece}
 use Rattle.regionmap.proofs.Laws.{map-laws}
 use Rattle.posix.specs.Posix.{Card, pread}
 use Rattle.completion.specs.declared.WriteTicket.{WriteTicket}
+use Rattle.model.specs.declared.Opening.{Opening}
 use Rattle.model.specs.declared.Kind.{Kind}
 use Rattle.model.specs.declared.Kind.the-variants.{Page, Read}
 use Rattle.model.specs.declared.Split.{Split}
@@ -22,8 +23,9 @@ use Rattle.model.specs.declared.Awaits.the-variants.{Piece, Flush}
 use Rattle.model.specs.declared.Row.{Row}
 use Rattle.model.specs.declared.Request.{Request}
 use Rattle.model.specs.State.{State}
+use Rattle.model.specs.Opening.{Plan}
 use Rattle.step.specs.Questions.{regionAt}
-use Rattle.step.specs.Rules.{firstOf, lastOf, pieceOf, pieceLength}
+use Rattle.step.specs.Rules.{firstOf, lastOf, pieceOf, pieceLength, ticketOf}
 use Rattle.step.specs.Step.{rowAt, rowOf, names, bytesAt, planOf}
 use Rattle.step.specs.Sound.{Sound}
 use Rattle.step.specs.Lists.{loose, planAt, leftIn}
@@ -34,9 +36,11 @@ use Rattle.step.proofs.Demand2Fate.{pages}
 -- ---- the operation
 
 pub record Task : Type 0 where
-  -- its queue tag, its request, its region's map and its kind
+  -- its queue tag, its request, the settings, its region as the opening was given it, that one's map, and its kind
   pub tag : ℕ
   pub request : Request
+  pub opening : Opening
+  pub plan : Plan
   pub map : Map
   pub kind : Kind
   -- the bytes that its range ends with and begins with, and the buffer's others
@@ -73,15 +77,23 @@ onCard w d = pick (pages (w .kind)) d (w .request .length)
 
 -- ---- in a row
 
+-- the ticket of a write that awaits its flush
+pub record ItsTicket (w : Task) (t : WriteTicket) : Type 0 where
+  pub long : t .end .0 - t .start .0 ≡ w .request .length
+  pub flushes : ℕ
+  pub is : t ≡ ticketOf (w .opening) (w .plan) (w .kind) flushes
+  pub durable : w .request .durable ≡ true
+
 pub data Stage (w : Task) (d : ℕ) (a : Awaits) : Type 0 where
   piece : a ≡ Piece (w .kind) (splitOf w d) → d < w .request .length → Stage w d a
-  flush : (t : WriteTicket) → a ≡ Flush t → pages (w .kind) ≡ true → d ≡ w .request .length → t .end .0 - t .start .0 ≡ w .request .length → Stage w d a
+  flush : (t : WriteTicket) → a ≡ Flush t → pages (w .kind) ≡ true → d ≡ w .request .length → ItsTicket w t → Stage w d a
 
 pub record InRow (w : Task) (r : Row) (d : ℕ) : Type 0 where
   pub named : names r (w .tag) ≡ true
   pub handle : r .handle ≡ w .request .handle
   pub buffer : r .buffer ≡ w .request .buffer
   pub tag : r .tag ≡ w .request .tag
+  pub durable : pages (w .kind) ≡ true → r .durable ≡ w .request .durable
   pub stage : Stage w d (r .awaits)
 
 -- ---- in a table
@@ -89,6 +101,8 @@ pub record InRow (w : Task) (r : Row) (d : ℕ) : Type 0 where
 pub record Open (w : Task) (s : State) (card : Card) (d : ℕ) : Type 0 where
   pub sound : Sound s
   pub in-row : InRow w (rowAt s (rowOf (w .tag))) d
+  pub settings-are : s .settings ≡ w .opening
+  pub plan-is : planOf (regionAt s (w .request .handle)) ≡ w .plan
   pub map-is : regionAt s (w .request .handle) .map ≡ w .map
   pub bytes : drop (hostsOf w d) (bytesAt s (w .request .buffer)) ≡ drop (hostsOf w d) (lying (w .new) (w .old) (w .tail) d)
   pub card-is : (i : ℕ) → i < onCard w d → card (mappedTo w i) ≡ getD (w .new) i 0

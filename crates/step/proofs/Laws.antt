@@ -37,6 +37,7 @@ use Rattle.step.specs.Sound.{rangeStart, rangeEnd, SplitFits, Sound}
 use Rattle.step.specs.Laws.{onCard, stepped, issuedUpTo, StepLaws}
 use Rattle.step.proofs.Picked.{by-pick}
 use Rattle.step.proofs.Numbers.{write-numbers, read-numbers}
+use Rattle.step.proofs.Asked.{answer-asked, flush-asked, answer-numbers, flush-numbers}
 use Rattle.step.proofs.Histories.{leaves, histories}
 use Rattle.step.proofs.Transfers.{one-write, one-read}
 use Rattle.step.proofs.Answers.{Passed, write-passed, read-passed}
@@ -115,6 +116,10 @@ step-laws = record {
   another-length-looked = another-length-looked;
   write-numbers = write-numbers;
   read-numbers = read-numbers;
+  answer-asked = λ s l t a back flushes same. answer-asked s l t same a back flushes;
+  flush-asked = λ s l t result same. flush-asked s l t same result;
+  answer-numbers = answer-numbers;
+  flush-numbers = flush-numbers;
   issued = λ m start total. rw (add-zero, sub-zero) at (issued-from total m start (begun total));
   write = λ s q i e x len. one-write s q i (write-passed s q e) x len;
   read = λ s q i e x len. one-read s q i (read-passed s q e) x len;

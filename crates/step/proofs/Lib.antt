@@ -18,6 +18,7 @@ pub mod Away
 pub mod Opened
 pub mod Memory
 pub mod Numbers
+pub mod Asked
 pub mod Histories
 pub mod Transfers
 pub mod Laws

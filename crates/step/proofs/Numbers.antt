@@ -16,7 +16,7 @@ use Rattle.model.specs.Opening.{among}
 use Rattle.step.specs.Questions.{ask, handleNamesRegion, bufferInPool, hostHoldsBuffer, roomInTable, lifetimeLeft, gateOpen, storeWritable, unpoisoned, regionWritable, volumeAndRegionMatch, generationMatches, lengthAbove0, aligned, withinData, writeQuestions, readQuestions}
 use Rattle.step.specs.Laws.{saysOne, SaysEach, writeNumbers, readNumbers}
 
-asked : (ns : List ℕ) (b : Bool) (f : Refusal) → among (number f) ns ≡ true → saysOne ns (ask b f) ≡ true
+pub asked : (ns : List ℕ) (b : Bool) (f : Refusal) → among (number f) ns ≡ true → saysOne ns (ask b f) ≡ true
 unfolding saysOne ask
 asked ns true f e = refl
 asked ns false f e = e

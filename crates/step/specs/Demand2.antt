@@ -4,7 +4,7 @@
 use mathlib.Core.Path.{_≡_}
 use mathlib.Core.Logic.{_≢_}
 use mathlib.Core.Bool.{Bool, true, false}
-use mathlib.Core.Option.{Option, none, some}
+use mathlib.Core.Option.{some}
 use mathlib.Core.List.{List, [], _∷_, _++_}
 use Prim.Native.Nat.{ℕ, _+_, _<_}
 use lib.ListN.{getD, drop}
@@ -12,9 +12,13 @@ use Rattle.regionmap.specs.Map.{place}
 use Rattle.iobuf.specs.Turn.{stretch}
 use Rattle.posix.specs.Posix.{Card, pread}
 use Rattle.transfer.specs.Transfer.{gathered}
-use Rattle.completion.specs.declared.Outcome.the-variants.{Read as readTo}
+use Rattle.domain.specs.declared.Poisoned.{Poisoned}
+use Rattle.platform.specs.declared.Flushed.{Flushed}
+use Rattle.completion.specs.declared.Outcome.{Outcome}
+use Rattle.completion.specs.declared.Outcome.the-variants.{Written, Read as readTo}
 use Rattle.completion.specs.declared.Buffer.the-variants.{Back}
 use Rattle.completion.specs.declared.Completion.{Completion}
+use Rattle.model.specs.declared.Opening.{Opening}
 use Rattle.model.specs.declared.Kind.{Kind}
 use Rattle.model.specs.declared.Kind.the-variants.{Page, Read}
 use Rattle.model.specs.declared.Awaits.{Awaits}
@@ -23,14 +27,15 @@ use Rattle.model.specs.declared.Row.{Row}
 use Rattle.model.specs.declared.Request.{Request}
 use Rattle.model.specs.declared.Call.the-variants.{Write, ReadPage}
 use Rattle.model.specs.State.{State}
+use Rattle.model.specs.Opening.{Plan}
 use Rattle.step.specs.Questions.{regionAt}
-use Rattle.step.specs.Rules.{pieceLength, isWhole, Input, Input.answered, Input.flushed}
-use Rattle.step.specs.Step.{rowOf, rowAt, bytesAt, names, writesIn}
+use Rattle.step.specs.Rules.{pieceLength, isWhole, Input, Input.answered, Input.flushed, ticketOf, unflushed, flushOutcome}
+use Rattle.step.specs.Step.{startOf, endOf, rowOf, rowAt, bytesAt, planOf, names, writesIn}
 use Rattle.step.specs.Sound.{Sound}
 use Rattle.step.specs.Laws.{Made, Made.calls, Event, leave, next, run, replyTo}
 use Rattle.step.specs.Lists.{brought, isAway, planAt, leftIn, tagIn, gets, cardBy, cardAfter, Hosted, HostMay}
 use Rattle.step.specs.Alone.{tagGiven}
-use Rattle.step.specs.Demand3.{Start, openedBy, after, Mapped, isWrite}
+use Rattle.step.specs.Demand3.{Start, openedBy, after, Mapped}
 
 -- ---- the suppositions
 
@@ -79,6 +84,13 @@ bufferThen x e q = stretch (x .opening .capacity) (q .buffer) (e .leaves)
 abbrev pub begun : Start → List Event → Event → State
 begun x h e = next (after x h) e
 
+-- what a write comes to whose pieces were all taken whole, with the ticket of its own range: "Plain ends there"; "Durable, with the flush policy or a forced
+-- region", as its flush result says, and "without either" Poisoned or a receipt of need 2^64 − 1. A piece's answer does not end it DurabilityUnknown.
+pub data WroteAs (o : Opening) (g : Plan) (k : Kind) (durable : Bool) (outcome : Outcome) : Type 0 where
+  plain : durable ≡ false → (flushes : ℕ) → outcome ≡ Written (ticketOf o g k flushes) → WroteAs o g k durable outcome
+  without-flush : durable ≡ true → (flushes : ℕ) (first : Poisoned) → outcome ≡ unflushed o first (ticketOf o g k flushes) → WroteAs o g k durable outcome
+  by-flush : durable ≡ true → (flushes : ℕ) (result : Flushed) → outcome ≡ flushOutcome o (ticketOf o g k flushes) result → WroteAs o g k durable outcome
+
 -- what the operation's completion says, and its buffer as completed
 pub record Wrote (x : Start) (h : List Event) (e : Event) (t : ℕ) (q : Request) (card : Card) (es : List Event) : Type 0 where
   -- every byte has arrived at its mapped card offset
@@ -86,6 +98,7 @@ pub record Wrote (x : Start) (h : List Event) (e : Event) (t : ℕ) (q : Request
   -- the buffer, as completed, holds what it held at acceptance
   pub buffer : (c : Completion) (bytes : List ℕ) (more : List (Completion × List ℕ)) → gets (begun x h e) es t (q .buffer) ≡ (c, bytes) ∷ more
       → (bytes ≡ bufferThen x e q) × (c .buf ≡ Back (q .buffer) (q .length)) × (c .tag ≡ q .tag)
+      × WroteAs (x .opening) (planOf (regionAt (after x h) (q .handle))) (Page (startOf q) (endOf q)) (q .durable) (c .outcome)
 
 pub record DidRead (x : Start) (h : List Event) (e : Event) (t : ℕ) (q : Request) (card : Card) (es : List Event) : Type 0 where
   -- the card's bytes of the whole range, and behind them the buffer's own

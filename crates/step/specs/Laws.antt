@@ -2,7 +2,7 @@
 -- turned away changes nothing, and one with other lengths gets 13; the questions have the paper's numbers, in its order; the pieces of the map for an accepted
 -- operation's range act like one transfer (Demand2 says it of the answers). Proved in proofs/Laws.antt (step-laws).
 use mathlib.Core.Path.{_≡_}
-use mathlib.Core.Bool.{Bool, true, false}
+use mathlib.Core.Bool.{Bool, true, false, not}
 use mathlib.Core.List.{List, [], _∷_, map}
 use Prim.Native.Nat.{ℕ, zero, suc, _+_}
 use lib.ListN.{length}
@@ -14,24 +14,29 @@ use Rattle.regionmap.specs.Map.{Piece as MapPiece}
 use Rattle.regionmap.specs.Words.{offsetOf}
 use Rattle.transfer.specs.Transfer.{CardAndPool, Operation, wrote, readIn, whole, OneWrite, OneRead}
 use Rattle.completion.specs.declared.Refusal.{Refusal}
-use Rattle.completion.specs.declared.Refusal.the-variants.{Unfit}
+use Rattle.completion.specs.declared.Refusal.the-variants.{Unfit, UnknownTag, NotAwaited, AbovePiece}
 use Rattle.completion.specs.declared.Reply.{Reply}
-use Rattle.completion.specs.declared.Reply.the-variants.{No as turnedAway}
+use Rattle.completion.specs.declared.Reply.the-variants.{Piece as piece, No as turnedAway, Rejected, Done, Flush as flushAsked, Took, None as noneReady, Ok, Writes, Mark}
 use Rattle.completion.specs.Numbers.{number}
 use Rattle.model.specs.declared.Opening.{Opening}
 use Rattle.model.specs.declared.Lengths.{Lengths}
 use Rattle.model.specs.declared.Split.{Split}
 use Rattle.model.specs.declared.Request.{Request}
+use Rattle.platform.specs.declared.Answer.{Answer}
+use Rattle.platform.specs.declared.Flushed.{Flushed}
+use Rattle.model.specs.declared.Awaits.{Awaits}
+use Rattle.model.specs.declared.Awaits.the-variants.{Nothing, Piece, Flush}
 use Rattle.model.specs.declared.Call.{Call}
+use Rattle.model.specs.declared.Call.the-variants.{Answer as answer, Flushed as flushResult}
 use Rattle.model.specs.declared.Lookup.{Lookup}
 use Rattle.model.specs.declared.Asked.{Asked}
 use Rattle.model.specs.declared.Asked.the-variants.{Yes, No}
 use Rattle.model.specs.State.{State, Region}
-use Rattle.model.specs.Opening.{among, opened}
+use Rattle.model.specs.Opening.{Plan, among, opened}
 use Rattle.model.specs.Memory.{plansIn, opens}
-use Rattle.step.specs.Questions.{regionAt, firstNo, writeQuestions, readQuestions}
-use Rattle.step.specs.Rules.{pieceOf}
-use Rattle.step.specs.Step.{step, look, eqLengths, begun}
+use Rattle.step.specs.Questions.{ask, regionAt, firstNo, writeQuestions, readQuestions}
+use Rattle.step.specs.Rules.{pieceOf, pieceLength, abovePiece}
+use Rattle.step.specs.Step.{rowAt, rowOf, names, planOf, step, look, eqLengths, begun}
 use Rattle.step.specs.Sound.{Sound}
 
 -- ---- histories
@@ -96,6 +101,45 @@ writeNumbers =
 unfoldable pub readNumbers : List (List ℕ)
 readNumbers = one 1 ∷ one 1 ∷ one 4 ∷ one 2 ∷ one 11 ∷ one 3 ∷ one 12 ∷ (4 ∷ 5 ∷ []) ∷ one 8 ∷ one 9 ∷ one 10 ∷ []
 
+-- what is asked of an answer: "Does the tag name a live row with its generation? No: 14. Does the row await a piece ..? No: 15. Is the count at most the piece?
+-- No: 16."
+unfoldable pub awaitsPiece : Awaits → Bool
+awaitsPiece Nothing = false
+awaitsPiece (Piece k s) = true
+awaitsPiece (Flush t) = false
+
+unfoldable pub atMostPiece : Plan → Awaits → Answer → Bool
+atMostPiece g Nothing a = true
+atMostPiece g (Piece k s) a = not (abovePiece (pieceLength g k s) a)
+atMostPiece g (Flush t) a = true
+
+unfoldable pub answerQuestions : State → ℕ → Answer → List Asked
+answerQuestions s t a =
+    let r = rowAt s (rowOf t) in
+    ask (names r t) UnknownTag ∷ ask (awaitsPiece (r .awaits)) NotAwaited ∷ ask (atMostPiece (planOf (regionAt s (r .handle))) (r .awaits) a) AbovePiece ∷ []
+
+-- .. of a flush result: "(for a flush result: a flush)"
+unfoldable pub awaitsFlush : Awaits → Bool
+awaitsFlush Nothing = false
+awaitsFlush (Piece k s) = false
+awaitsFlush (Flush t) = true
+
+unfoldable pub flushQuestions : State → ℕ → List Asked
+flushQuestions s t = let r = rowAt s (rowOf t) in ask (names r t) UnknownTag ∷ ask (awaitsFlush (r .awaits)) NotAwaited ∷ []
+
+-- whether a reply turns away, and by which refusal
+unfoldable pub askedBy : Reply → Asked
+askedBy (piece t o n b) = Yes
+askedBy (turnedAway f) = No f
+askedBy (Rejected g o e b) = Yes
+askedBy (Done t) = Yes
+askedBy (flushAsked t n) = Yes
+askedBy (Took c) = Yes
+askedBy noneReady = Yes
+askedBy Ok = Yes
+askedBy (Writes w) = Yes
+askedBy (Mark m) = Yes
+
 -- ---- pieces
 
 -- the split after a piece is answered whole
@@ -131,6 +175,13 @@ pub record StepLaws : Type 0 where
   -- the questions have the paper's numbers, in its order
   pub write-numbers : (s : State) (g : Region) (q : Request) → SaysEach writeNumbers (writeQuestions s g q)
   pub read-numbers : (s : State) (g : Region) (q : Request) → SaysEach readNumbers (readQuestions s g q)
+  -- an answer and a flush result are turned away exactly by the first question that fails, whatever the table
+  pub answer-asked : (s : State) (l : Lengths) (t : ℕ) (a : Answer) (back : Bool) (flushes : ℕ) → eqLengths l (s .lengths) ≡ true
+      → askedBy (step s l (answer t a back flushes) .1) ≡ firstNo (answerQuestions s t a)
+  pub flush-asked : (s : State) (l : Lengths) (t : ℕ) (result : Flushed) → eqLengths l (s .lengths) ≡ true
+      → askedBy (step s l (flushResult t result) .1) ≡ firstNo (flushQuestions s t)
+  pub answer-numbers : (s : State) (t : ℕ) (a : Answer) → SaysEach (one 14 ∷ one 15 ∷ one 16 ∷ []) (answerQuestions s t a)
+  pub flush-numbers : (s : State) (t : ℕ) → SaysEach (one 14 ∷ one 15 ∷ []) (flushQuestions s t)
   -- the pieces of an operation are the map's for its range
   pub issued : (m : Map) (start total : ℕ) → issuedUpTo total m start (begun total) ≡ map (onCard m) (pieces m start total)
   -- and those of an accepted one, each taken whole, act like one transfer, over any pool of the table's length
