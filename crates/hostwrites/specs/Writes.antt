@@ -16,7 +16,7 @@ fillBytes seed i (suc n) = fillByte seed i ∷ fillBytes seed (i + 1) n
 
 -- `fill BUFFER AT LENGTH SEED`: n bytes from a place of the pool on, and every other byte as it was
 unfoldable pub filled : ℕ → ℕ → ℕ → List ℕ → List ℕ
-filled at n seed pool = take at pool ++ (fillBytes seed 0 n ++ drop (at + n) pool)
+filled at n seed pool = take at pool ++ fillBytes seed 0 n ++ drop (at + n) pool
 
 -- "for each byte s1 = (s1 + b) mod 4294967291, s2 = (s2 + s1) mod 4294967291; S = s2 × 2^32 + s1"
 unfoldable pub sumFrom : ℕ → ℕ → List ℕ → ℕ

@@ -1,36 +1,45 @@
+-- `hostwrites::in_pool` meets its contract: no sum or product exceeds 64 bits, since each test comes before it.
+use mathlib.Core.Path.{_≡_}
+use Prim.Native.Nat.{_+_, _*_, _≤_}
+use lib.ListN.{length}
+use native.Mathlib.Omega.{arith}
+use borrow.Author.Tests.{lt-ltb, le-ltb, le-leb, lt-leb}
+use Rattle.hostwrites.specs.Writes.{inPool}
+use Rattle.hostwrites.proofs.Bytes.{by-quotient}
 use borrow.Author.Needs.{needs}
 use Rattle.hostwrites.proofs.in_pool.Statement.{statement}
 use Rattle.hostwrites.proofs.in_pool.Tie as tie
-use Rattle.hostwrites.proofs.in_pool.Reads as reads
-use Rattle.hostwrites.proofs.in_pool.Lts as lts
 
--- src/lib.rt:60:9
 returns : tie.Need-returns
-returns c = ?
+unfolding inPool
+returns c = simp (le-ltb _ _ (c .if1 .taken))
 
--- src/lib.rt:63:9
 returns-2 : tie.Need-returns-2
-returns-2 c = ?
+unfolding inPool
+returns-2 c = let a = c .before .before .args in simp (lt-ltb (a .b) (a .buffers) (omega arith), lt-leb (a .at + a .n) (a .capacity) (omega arith))
 
--- src/lib.rt:66:9
 returns-3 : tie.Need-returns-3
-returns-3 c = ?
+unfolding inPool
+returns-3 c = let a = c .before .before .before .args in simp (lt-ltb (a .b) (a .buffers) (omega arith), lt-leb (a .at + a .n) (a .capacity) (omega arith))
 
--- src/lib.rt:69:9
 returns-4 : tie.Need-returns-4
-returns-4 c = ?
+unfolding inPool
+returns-4 c = let a = c .before .before .before .before .args in simp (lt-ltb (a .b) (a .buffers) (omega arith), le-leb (a .at + a .n) (a .capacity) (omega arith), lt-leb (a .b * a .capacity + a .capacity) (length (a .pool .now)) (omega arith))
 
--- src/lib.rt:72:9
 returns-5 : tie.Need-returns-5
-returns-5 c = ?
+unfolding inPool
+returns-5 c =
+    let a = c .before .before .before .before .before .args in
+    let none : a .capacity ≡ 0 = omega arith in
+    let fits : a .b * a .capacity + a .capacity ≤ length (a .pool .now) = rw none (omega arith) in
+    simp (lt-ltb (a .b) (a .buffers) (omega arith), le-leb (a .at + a .n) (a .capacity) (omega arith), le-leb (a .b * a .capacity + a .capacity) (length (a .pool .now)) fits)
 
--- src/lib.rt:74:10
 div-result : tie.Need-div-result
 div-result c = search needs
 
--- src/lib.rt:55:1
 returns-6 : tie.Need-returns-6
-returns-6 c = ?
+unfolding inPool
+returns-6 c = let a = c .before .before .before .before .before .args in simp (lt-ltb (a .b) (a .buffers) (omega arith), le-leb (a .at + a .n) (a .capacity) (omega arith), by-quotient (a .b) (a .capacity) (length (a .pool .now)) (omega arith) (omega arith))
 
 pub in-pool-spec : {M : Type 1} → statement M
 in-pool-spec =

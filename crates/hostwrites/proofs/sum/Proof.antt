@@ -1,57 +1,69 @@
+-- `hostwrites::sum` meets its contract: before each turn the sum of what is left, from the two numbers on, is the whole's. The measure is what is left of the bytes.
+use mathlib.Core.Path.{_≡_, refl, sym, ap, _∙_}
+use Prim.Native.Nat.{ℕ, _-_, _≤_, _<_}
+use native.Mathlib.Numerals.{add-one}
+use native.Mathlib.Nat.{mod-lt}
+use native.Mathlib.Omega.{arith}
+use lib.ListN.{length, drop}
+use lib.Seq.{drop-length}
+use Rattle.hostwrites.specs.Writes.{sumFrom, sumOf}
+use Rattle.hostwrites.proofs.Bytes.{one-more}
 use Rattle.hostwrites.proofs.sum.Statement.{statement}
 use Rattle.hostwrites.proofs.sum.Tie as tie
-use Rattle.hostwrites.proofs.sum.Reads as reads
-use Rattle.hostwrites.proofs.sum.Lts as lts
 
 abbrev Inv-loop : tie.InvT-loop
-Inv-loop bytes s1₀ s2₀ i₀ s1 s2 i = ?
+Inv-loop bytes s1₀ s2₀ i₀ s1 s2 i = (i ≤ length bytes) × (s1 < 4294967291) × (s2 < 4294967291) × (sumFrom s1 s2 (drop i bytes) ≡ sumOf bytes)
 
 abbrev μ-loop : tie.MeasureT-loop
-μ-loop bytes s1₀ s2₀ i₀ s1 s2 i = ?
+μ-loop bytes s1₀ s2₀ i₀ s1 s2 i = length bytes - i
 
--- src/lib.rt:46:5
 loop-holds : tie.Need-loop-holds Inv-loop μ-loop
-loop-holds c = ?
+unfolding sumOf
+loop-holds c = (omega arith, omega arith, omega arith, refl)
 
--- src/lib.rt:47:20
 shared-slice-read-s1 : tie.Need-shared-slice-read-s1 Inv-loop μ-loop
-shared-slice-read-s1 c = ?
+shared-slice-read-s1 c = omega arith
 
--- src/lib.rt:47:20
 cast-s1 : tie.Need-cast-s1 Inv-loop μ-loop
-cast-s1 c = ?
+cast-s1 c = omega (arith, c .shared-slice-known .given (c .before .before .loop .i))
 
--- src/lib.rt:47:15
 add-s1 : tie.Need-add-s1 Inv-loop μ-loop
-add-s1 c = ?
+add-s1 c = omega (arith, c .shared-slice-known .given (c .before .before .loop .i))
 
--- src/lib.rt:48:15
 add-s2 : tie.Need-add-s2 Inv-loop μ-loop
-add-s2 c = ?
+add-s2 c = omega arith
 
--- src/lib.rt:49:9
 add-i : tie.Need-add-i Inv-loop μ-loop
-add-i c = ?
+add-i c = omega arith
 
--- src/lib.rt:46:5
 loop-less : tie.Need-loop-less Inv-loop μ-loop
-loop-less c = ?
+loop-less c = omega arith
 
--- src/lib.rt:46:5
 loop-again : tie.Need-loop-again Inv-loop μ-loop
-loop-again c = ?
+loop-again c =
+    let head = c .before .before in
+    let start = head .before in
+    let bytes = start .args .bytes .now in
+    let i = head .loop .i in (
+      omega arith,
+      mod-lt _ (omega arith),
+      mod-lt _ (omega arith),
+      rw add-one (sym (one-more (head .loop .s1) (head .loop .s2) i bytes (omega arith)) ∙ head .loop .inv .3),
+    )
 
--- src/lib.rt:51:5
 mul-result : tie.Need-mul-result Inv-loop μ-loop
-mul-result c = ?
+mul-result c = omega arith
 
--- src/lib.rt:51:5
 add-result : tie.Need-add-result Inv-loop μ-loop
-add-result c = ?
+add-result c = omega arith
 
--- src/lib.rt:40:1
 returns : tie.Need-returns Inv-loop μ-loop
-returns c = ?
+unfolding sumFrom
+returns c =
+    let head = c .before in
+    let bytes = head .before .args .bytes .now in
+    let all : head .loop .i ≡ length bytes = omega arith in
+    sym (ap (sumFrom (head .loop .s1) (head .loop .s2)) (ap (λ (k : ℕ). drop k bytes) all ∙ drop-length bytes)) ∙ head .loop .inv .3
 
 pub sum-spec : {M : Type 1} → statement M
 sum-spec =
