@@ -7,6 +7,8 @@ use Prim.Native.Nat.{ℕ, _+_, _<_}
 use lib.ListN.{getD}
 use lib.Dec.{leb, eqb}
 use Rattle.model.specs.declared.Counts.{Counts}
+use Rattle.model.specs.declared.Kind.{Kind}
+use Rattle.model.specs.declared.Split.{Split}
 use Rattle.model.specs.declared.Kind.the-variants.{Page, Read}
 use Rattle.model.specs.declared.Awaits.{Awaits}
 use Rattle.model.specs.declared.Awaits.the-variants.{Nothing, Piece, Flush}
@@ -17,6 +19,7 @@ use Rattle.step.specs.Questions.{heldAt}
 use Rattle.step.specs.Sound.{Sound}
 use Rattle.step.specs.Lists.{loose, planAt}
 use Rattle.called.specs.Called.{lentOf}
+use Rattle.answers.specs.UnderWay.{PieceUnderWay}
 use Rattle.hostwrites.specs.Writes.{inPool}
 
 -- a read's piece is under way
@@ -50,6 +53,16 @@ abbrev pub TellsLoose : List Row → List ℕ → ℕ → ℕ → Bool → Type 
 TellsLoose rows store b end r =
     (c : Counts) (free ready owners pool : List ℕ) → Open c (lentOf rows store free ready owners pool)
     → r ≡ anyLoose (stateIn c (lentOf rows store free ready owners pool)) b end (stateIn c (lentOf rows store free ready owners pool) .rows)
+
+-- whether a read's piece under way, found in the region's words, has at least `end` bytes
+pub record CoversRead (store : List ℕ) (h : ℕ) (k : Kind) (s : Split) (end : ℕ) (r : Bool) : Type 0 where
+  pub piece : ℕ
+  pub under-way : PieceUnderWay store h k s piece
+  pub covers : r ≡ leb end piece
+
+unfoldable pub Covers : List ℕ → ℕ → Kind → Split → ℕ → Bool → Type 0
+Covers store h (Page a b) s end r = r ≡ false
+Covers store h (Read a b) s end r = CoversRead store h (Read a b) s end r
 
 -- .. and of one of them
 abbrev pub TellsRow : Row → List ℕ → ℕ → ℕ → Bool → Type 0
