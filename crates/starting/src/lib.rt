@@ -2,8 +2,9 @@
 ghost use mathlib.Core.Path.{_≡_};
 ghost use Prim.Native.Nat.{_*_, _≤_};
 ghost use lib.ListN.{length, take};
+ghost use Rattle.layout.specs.Pick.{pick};
 ghost use Rattle.called.specs.Called.{lentOf};
-ghost use Rattle.starting.specs.Start.{lengthsFor, keeps, StartsTo};
+ghost use Rattle.starting.specs.Start.{keeps, StartsTo};
 use model::Lengths;
 use model::Opening;
 use model::Row;
@@ -68,7 +69,9 @@ fn keeps_rules(o: Opening, plan: &[u64]) -> bool
 }
 
 // An opening that did not open: it keeps all rules, or breaks one.
-fn not_opened(o: Opening, plan: &[u64]) -> Started {
+fn not_opened(o: Opening, plan: &[u64]) -> Started
+    ensures { λ r. ⌜ r ≡ pick (keeps o (now (plan .entry))) Started.TooLarge Started.Refused ⌝ }
+{
     if keeps_rules(o, plan) {
         return Started::TooLarge;
     }

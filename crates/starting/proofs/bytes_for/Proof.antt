@@ -1,28 +1,43 @@
+-- `starting::bytes_for` meets its contract: where there are fewer bytes than are asked for, all are taken.
+use mathlib.Core.Path.{_≡_, refl, sym, ap, _∙_}
+use Prim.Native.Nat.{ℕ, _*_, _≤_, _<_}
+use native.Mathlib.Nat.{div-lt-iff-lt-mul, le-div-iff-mul-le, mul-zero}
+use native.Mathlib.Omega.{arith}
+use lib.ListN.{length, take}
+use lib.Seq.{take-all}
 use borrow.Author.Needs.{needs}
 use Rattle.starting.proofs.bytes_for.Statement.{statement}
 use Rattle.starting.proofs.bytes_for.Tie as tie
-use Rattle.starting.proofs.bytes_for.Reads as reads
-use Rattle.starting.proofs.bytes_for.Lts as lts
 
--- src/lib.rt:35:9
 returns : tie.Need-returns
-returns c = ?
+returns c =
+    let a = c .before .args in
+    let none : a .o .capacity ≡ 0 = omega arith in
+    (omega arith, ap (λ (n : ℕ). take n (a .pool .now)) (sym (ap (λ (n : ℕ). a .o .buffers * n) none ∙ mul-zero (a .o .buffers))))
 
--- src/lib.rt:37:8
 div-if2 : tie.Need-div-if2
 div-if2 c = search needs
 
--- src/lib.rt:38:9
 returns-2 : tie.Need-returns-2
-returns-2 c = ?
+returns-2 c =
+    let a = c .before .before .args in
+    let some : 0 < a .o .capacity = omega arith in
+    let fewer = div-lt-iff-lt-mul some .0 (c .if2 .taken) in
+    (omega arith, take-all (length (a .pool .now)) (a .pool .now) (omega arith) ∙ sym (take-all (a .o .buffers * a .o .capacity) (a .pool .now) (omega (arith, fewer))))
 
--- src/lib.rt:40:5
 mul-result : tie.Need-mul-result
-mul-result c = ?
+mul-result c =
+    let a = c .before .before .args in
+    let some : 0 < a .o .capacity = omega arith in
+    let room = le-div-iff-mul-le some .0 (c .if2 .left) in
+    omega (arith, room)
 
--- src/lib.rt:28:1
 returns-3 : tie.Need-returns-3
-returns-3 c = ?
+returns-3 c =
+    let a = c .before .before .args in
+    let some : 0 < a .o .capacity = omega arith in
+    let room = le-div-iff-mul-le some .0 (c .if2 .left) in
+    (omega (arith, room), refl)
 
 pub bytes-for-spec : {M : Type 1} → statement M
 bytes-for-spec = tie.close (tie.spec returns div-if2 returns-2 mul-result returns-3)

@@ -1,53 +1,59 @@
+-- `starting::keeps_rules` meets its contract: numbers that are too large break a rule, and with the others no sum or product exceeds 64 bits.
+use mathlib.Core.Path.{_≡_, sym}
+use native.Mathlib.Nat.{mul-le-mul}
+use native.Mathlib.Omega.{arith}
+use Rattle.layout.proofs.Tests.{refused}
+use Rattle.model.proofs.Laws.{opening-laws}
+use Rattle.starting.specs.Start.{lengthsFor, keeps}
 use borrow.Author.Needs.{needs}
 use Rattle.starting.proofs.keeps_rules.Statement.{statement}
 use Rattle.starting.proofs.keeps_rules.Tie as tie
-use Rattle.starting.proofs.keeps_rules.Reads as reads
-use Rattle.starting.proofs.keeps_rules.Lts as lts
-use Rattle.opening.proofs.admits.Reads as admits-reads
 
--- src/lib.rt:48:9
 returns : tie.Need-returns
-returns c = ?
+unfolding keeps
+returns c =
+    let a = c .before .before .before .args in
+    sym (refused _ (λ e. let most = opening-laws .numbers (a .o) (a .plan .now) _ e .most-depth in omega arith))
 
--- src/lib.rt:51:9
 returns-2 : tie.Need-returns-2
-returns-2 c = ?
+unfolding keeps
+returns-2 c =
+    let a = c .before .before .before .before .before .args in
+    sym (refused _ (λ e. let most = opening-laws .numbers (a .o) (a .plan .now) _ e .most-buffers in omega arith))
 
--- src/lib.rt:54:9
 returns-3 : tie.Need-returns-3
-returns-3 c = ?
+unfolding keeps
+returns-3 c =
+    let a = c .before .before .before .before .before .before .before .args in
+    sym (refused _ (λ e. let most = opening-laws .numbers (a .o) (a .plan .now) _ e .most-capacity in omega arith))
 
--- src/lib.rt:57:9
 returns-4 : tie.Need-returns-4
-returns-4 c = ?
+unfolding keeps
+returns-4 c =
+    let a = c .before .before .before .before .before .before .before .before .before .args in
+    sym (refused _ (λ e. let most = opening-laws .numbers (a .o) (a .plan .now) _ e .most-regions in omega arith))
 
--- src/lib.rt:61:21
 mul-t5 : tie.Need-mul-t5
 mul-t5 c = search needs
 
--- src/lib.rt:61:16
 add-t6 : tie.Need-add-t6
 add-t6 c = search needs
 
--- src/lib.rt:63:20
 mul-t7 : tie.Need-mul-t7
 mul-t7 c = search needs
 
--- src/lib.rt:63:16
 add-t8 : tie.Need-add-t8
 add-t8 c = search needs
 
--- src/lib.rt:65:15
 mul-t9 : tie.Need-mul-t9
-mul-t9 c = ?
+mul-t9 c = let a = c .before .before .before .before .before .before .before .before .before .before .before .before .args in let most = mul-le-mul {n₁ = a .o .buffers} {m₁ = a .o .capacity} {n₂ = 4096} {m₂ = 65536} (omega arith) (omega arith) in omega (arith, most)
 
--- src/lib.rt:67:5
 admits-requires : tie.Need-admits-requires
 admits-requires c κs = search needs
 
--- src/lib.rt:44:1
 returns-5 : tie.Need-returns-5
-returns-5 c = ?
+unfolding keeps lengthsFor
+returns-5 c = c .admits .ensures
 
 pub keeps-rules-spec : {M : Type 1} → statement M
 keeps-rules-spec =
