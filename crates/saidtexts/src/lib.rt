@@ -10,13 +10,28 @@ ghost use Rattle.saidtexts.specs.Listed.{generationOf, listedText};
 use completion::Reply;
 use model::Row;
 
+// The first n bytes of a text, put to the front.
+fn put_part(text: &[u8], n: usize, out: &mut [u8]) -> usize
+    requires { ⌜ (n ≤ length (now text)) × (n ≤ length (now out)) ⌝ }
+    ensures { λ r. ⌜ (r ≡ n) × (take r (now (out .exit)) ≡ take n (now (text .entry))) ⌝ }
+{
+    putting::put(&text[..n], out, 0)
+}
+
+fn put_front(text: &[u8; 1024], n: usize, out: &mut [u8; 4096]) -> usize
+    requires { ⌜ n ≤ 1024 ⌝ }
+    ensures { λ r. ⌜ (r ≤ 4096) × (take r (now (out .exit)) ≡ take n (now (text .entry))) ⌝ }
+{
+    put_part(text, n, out)
+}
+
 // A reply.
 pub fn say_reply(reply: Reply, out: &mut [u8; 4096]) -> usize
     ensures { λ r. ⌜ (r ≤ 4096) × (take r (now (out .exit)) ≡ replayText reply) ⌝ }
 {
     let mut text = [0u8; 1024];
     let n = replytexts::reply_text(reply, &mut text);
-    putting::put(&text[..n], out, 0)
+    put_front(&text, n, out)
 }
 
 // `bad` and the line's number.
@@ -33,6 +48,13 @@ pub fn say_sum(sum: u64, out: &mut [u8; 4096]) -> usize
     texts::numbered_text(b"sum", sum, out)
 }
 
+// A generation as a word.
+fn wide(x: u32) -> u64
+    ensures { λ r. ⌜ r ≡ x ⌝ }
+{
+    x as u64
+}
+
 // The generations of the rows.
 fn generations(rows: [Row; 64]) -> [u64; 64]
     ensures { λ r. ⌜ r ≡ map generationOf rows ⌝ }
@@ -41,7 +63,7 @@ fn generations(rows: [Row; 64]) -> [u64; 64]
     let mut i: usize = 0;
     while i < 64 {
         let row = rows[i];
-        all[i] = row.generation as u64;
+        all[i] = wide(row.generation);
         i += 1;
     }
     all

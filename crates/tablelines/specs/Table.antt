@@ -14,7 +14,7 @@ use Rattle.model.specs.declared.Call.the-variants.{Write, ReadPage, Answer, Flu
 use Rattle.model.specs.declared.Lookup.{Lookup}
 use Rattle.model.specs.declared.Lookup.the-variants.{WritesLive}
 use Rattle.model.specs.Memory.{Lent, settingsIn, stateIn}
-use Rattle.called.specs.Called.{CallsTo, LooksTo}
+use Rattle.called.specs.Called.{lentOf, CallsTo, LooksTo}
 use Rattle.lineforms.specs.declared.Said.{Said}
 use Rattle.lineforms.specs.declared.Said.the-variants.{Comment, Call as callSaid, Own, Count, Look, Len, Fill, Sum, Rows, Bad}
 use Rattle.linecalls.specs.declared.Named.{Named}
@@ -32,6 +32,9 @@ pub record Held : Type 0 where
   pub flushes : ℕ
   pub counts : Counts
   pub lent : Lent
+
+abbrev pub heldOf : ℕ → Counts → Lent → Held
+heldOf flushes counts lent = record { flushes = flushes; counts = counts; lent = lent }
 
 -- "handle 0, with its own volume, id and generation": of the table's words (the model's Memory) the volume is the 8th, region 0's id and generation the
 -- 48th and the 49th
@@ -63,50 +66,51 @@ pub record Ran (call : Call) (h h′ : Held) (text : List ℕ) : Type 0 where
   pub prints : text ≡ replayText reply
 
 -- a lookup is made over what is lent, and its reply printed
-pub record Looks (x : Lookup) (lent : Lent) (h h′ : Held) (text : List ℕ) : Type 0 where
+pub record LooksAs (x : Lookup) (c : Counts) (lent : Lent) (text : List ℕ) : Type 0 where
   pub reply : Reply
-  pub looked : LooksTo x (h .counts) lent reply
-  pub held : h′ ≡ h
+  pub looked : LooksTo x c lent reply
   pub prints : text ≡ replayText reply
+
+abbrev pub Looks : Lookup → Lent → Held → Held → List ℕ → Type 0
+Looks x lent h h′ text = (h′ ≡ h) × LooksAs x (h .counts) lent text
 
 -- `len`: "a lookup with another length of row memory": the free stack is lent without its last word
 unfoldable pub shorter : Lent → Lent
 shorter l = record { rows = l .rows; store = l .store; free = take (length (l .free) - 1) (l .free); ready = l .ready; owners = l .owners; pool = l .pool }
 
--- `fill BUFFER AT LENGTH SEED`
-unfoldable pub filledIn : ℕ → ℕ → ℕ → ℕ → Held → Held
-filledIn b at n seed h =
+-- `fill BUFFER AT LENGTH SEED`, which "is `bad`" where the host may not write
+pub record FillsIn (b at n seed number : ℕ) (rows : List Row) (store owners pool pool′ text : List ℕ) : Type 0 where
+  pub may : Bool
+  pub may-is : (c : Counts) (free ready : List ℕ) → Open c (lentOf rows store free ready owners pool) → may ≡ mayFill (stateIn c (lentOf rows store free ready owners pool)) b at n
+  pub pool-is : pool′ ≡ pick may (filled (placeIn (settingsIn store .capacity) b at) n seed pool) pool
+  pub prints : text ≡ pick may (replayText Ok) (badText number)
+
+-- nothing else is changed
+unfoldable pub withPool : List ℕ → Held → Held
+withPool pool h =
     record {
       flushes = h .flushes;
       counts = h .counts;
-      lent = record {
-        rows = h .lent .rows;
-        store = h .lent .store;
-        free = h .lent .free;
-        ready = h .lent .ready;
-        owners = h .lent .owners;
-        pool = filled (placeIn (settingsIn (h .lent .store) .capacity) b at) n seed (h .lent .pool);
-      };
+      lent = lentOf (h .lent .rows) (h .lent .store) (h .lent .free) (h .lent .ready) (h .lent .owners) pool;
     }
 
--- .. which "is `bad`" where the host may not write
-pub record Fills (b at n seed number : ℕ) (h h′ : Held) (text : List ℕ) : Type 0 where
-  pub may : Bool
-  pub may-is : Open (h .counts) (h .lent) → may ≡ mayFill (stateIn (h .counts) (h .lent)) b at n
-  pub held : h′ ≡ pick may (filledIn b at n seed h) h
-  pub prints : text ≡ pick may (replayText Ok) (badText number)
+abbrev pub Fills : ℕ → ℕ → ℕ → ℕ → ℕ → Held → Held → List ℕ → Type 0
+Fills b at n seed number h h′ text =
+    (h′ ≡ withPool (h′ .lent .pool) h) × FillsIn b at n seed number (h .lent .rows) (h .lent .store) (h .lent .owners) (h .lent .pool) (h′ .lent .pool) text
 
 -- `sum BUFFER AT LENGTH`; "so is `sum` outside the pool"
-unfoldable pub summed : ℕ → ℕ → ℕ → ℕ → Lent → List ℕ
-summed b at n number l =
-    let o = settingsIn (l .store) in
-    pick (inPool (o .buffers) (o .capacity) (l .pool) b at n) (sumText (sumOf (take n (drop (placeIn (o .capacity) b at) (l .pool))))) (badText number)
+unfoldable pub summed : ℕ → ℕ → ℕ → ℕ → List ℕ → List ℕ → List ℕ
+summed b at n number store pool =
+    pick (inPool (settingsIn store .buffers) (settingsIn store .capacity) pool b at n) (sumText (sumOf (take n (drop (placeIn (settingsIn store .capacity) b at) pool)))) (badText number)
 
 -- `rows`: "generations and free stack", "top of the stack first", of every open table
-pub record Lists (h h′ : Held) (text : List ℕ) : Type 0 where
-  pub held : h′ ≡ h
-  pub prints : Open (h .counts) (h .lent)
-      → text ≡ rowsText (map (λ (r : Row). r .generation) (stateIn (h .counts) (h .lent) .rows)) (stateIn (h .counts) (h .lent) .free)
+abbrev pub ListsIn : Counts → List Row → List ℕ → List ℕ → List ℕ → Type 0
+ListsIn c rows store free text =
+    (ready owners pool : List ℕ) → Open c (lentOf rows store free ready owners pool)
+    → text ≡ rowsText (map (λ (r : Row). r .generation) (stateIn c (lentOf rows store free ready owners pool) .rows)) (stateIn c (lentOf rows store free ready owners pool) .free)
+
+abbrev pub Lists : Held → Held → List ℕ → Type 0
+Lists h h′ text = (h′ ≡ h) × ListsIn (h .counts) (h .lent .rows) (h .lent .store) (h .lent .free) text
 
 -- what a line of calls asks for: "A line that starts with `#` is passed over"; another form "prints `bad` and its number in the file, from 1, and changes nothing"
 unfoldable pub Asked : Asks → ℕ → Held → Held → List ℕ → Type 0
@@ -123,6 +127,6 @@ Answers (Count t n) number h h′ text = Asked (asksOf (Count t n) (namedIn (h .
 Answers (Look x) number h h′ text = Looks x (h .lent) h h′ text
 Answers Len number h h′ text = Looks WritesLive (shorter (h .lent)) h h′ text
 Answers (Fill b at n seed) number h h′ text = Fills b at n seed number h h′ text
-Answers (Sum b at n) number h h′ text = Still h h′ text (summed b at n number (h .lent))
+Answers (Sum b at n) number h h′ text = Still h h′ text (summed b at n number (h .lent .store) (h .lent .pool))
 Answers Rows number h h′ text = Lists h h′ text
 Answers Bad number h h′ text = Still h h′ text (badText number)

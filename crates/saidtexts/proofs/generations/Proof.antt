@@ -1,53 +1,71 @@
+-- `saidtexts::generations` meets its contract: before each turn the first i generations are there. The measure is how many are left.
+use mathlib.Core.Path.{_≡_, refl, sym, ap, _∙_}
+use mathlib.Core.List.{List, [], _∷_, _++_, map}
+use Prim.Native.Nat.{ℕ, _+_, _-_, _≤_, _<_}
+use native.Mathlib.Numerals.{add-one}
+use native.Mathlib.Omega.{arith}
+use lib.ListN.{length, getD, take, set, length-set, length-map, List·getD-map}
+use lib.Seq.{take-all, take-suc, take-suc-set}
+use borrow.Author.Needs.{needs}
+use Rattle.model.specs.State.{freed}
+use Rattle.saidtexts.specs.Listed.{generationOf}
 use Rattle.saidtexts.proofs.generations.Statement.{statement}
 use Rattle.saidtexts.proofs.generations.Tie as tie
-use Rattle.saidtexts.proofs.generations.Reads as reads
-use Rattle.saidtexts.proofs.generations.Lts as lts
 
 abbrev Inv-loop : tie.InvT-loop
-Inv-loop rows all₀ i₀ all i = ?
+Inv-loop rows all₀ i₀ all i = (i ≤ 64) × (length all ≡ 64) × (take i all ≡ take i (map generationOf rows))
 
 abbrev μ-loop : tie.MeasureT-loop
-μ-loop rows all₀ i₀ all i = ?
+μ-loop rows all₀ i₀ all i = 64 - i
 
--- src/lib.rt:42:5
 loop-holds : tie.Need-loop-holds Inv-loop μ-loop
-loop-holds c = ?
+loop-holds c = (omega arith, omega arith, refl)
 
--- src/lib.rt:43:19
 mul-row : tie.Need-mul-row Inv-loop μ-loop
-mul-row c = ?
+mul-row c = omega arith
 
--- src/lib.rt:43:19
 array-copy-out-row : tie.Need-array-copy-out-row Inv-loop μ-loop
-array-copy-out-row c = ?
+array-copy-out-row c = omega arith
 
--- src/lib.rt:44:18
-cast-all : tie.Need-cast-all Inv-loop μ-loop
-cast-all c = ?
+wide-requires : tie.Need-wide-requires Inv-loop μ-loop
+wide-requires c κs = search needs
 
--- src/lib.rt:44:9
 mul-all : tie.Need-mul-all Inv-loop μ-loop
-mul-all c = ?
+mul-all c = omega arith
 
--- src/lib.rt:44:9
 array-write-all : tie.Need-array-write-all Inv-loop μ-loop
-array-write-all c = ?
+array-write-all c = omega arith
 
--- src/lib.rt:45:9
 add-i : tie.Need-add-i Inv-loop μ-loop
-add-i c = ?
+add-i c = omega arith
 
--- src/lib.rt:42:5
 loop-less : tie.Need-loop-less Inv-loop μ-loop
-loop-less c = ?
+loop-less c = omega arith
 
--- src/lib.rt:42:5
 loop-again : tie.Need-loop-again Inv-loop μ-loop
-loop-again c = ?
+unfolding freed
+loop-again c =
+    let head = c .before .before .before in
+    let rows = head .before .args .t1 in
+    let all = head .loop .all in
+    let i = head .loop .i in
+    let long : length rows ≡ 64 = omega arith in
+    let room = head .loop .inv .1 in
+    let many = length-map rows generationOf in
+    let below : i < length (map generationOf rows) = omega (arith, many, long) in
+    let row-is : c .wide .result ≡ getD (map generationOf rows) i 0 = c .wide .ensures ∙ sym (List·getD-map generationOf rows i (freed 0)) in
+    (omega arith, simp length-set (omega (arith, room)), rw add-one (take-suc-set all i (c .wide .result) (omega (arith, room)) ∙ (λ j. head .loop .inv .2 j ++ (row-is j ∷ [])) ∙ sym (take-suc (map generationOf rows) i 0 below)))
 
--- src/lib.rt:37:1
 returns : tie.Need-returns Inv-loop μ-loop
-returns c = ?
+returns c =
+    let head = c .before in
+    let rows = head .before .args .t1 in
+    let all = head .loop .all in
+    let long : length rows ≡ 64 = omega arith in
+    let room = head .loop .inv .1 in
+    let many = length-map rows generationOf in
+    let end : head .loop .i ≡ 64 = omega arith in
+    sym (take-all 64 all (omega (arith, room))) ∙ ap (λ (k : ℕ). take k all) (sym end) ∙ head .loop .inv .2 ∙ ap (λ (k : ℕ). take k (map generationOf rows)) end ∙ take-all 64 (map generationOf rows) (omega (arith, many, long))
 
 pub generations-spec : {M : Type 1} → statement M
 generations-spec =
@@ -58,7 +76,7 @@ generations-spec =
     loop-holds
     mul-row
     array-copy-out-row
-    cast-all
+    wide-requires
     mul-all
     array-write-all
     add-i
