@@ -1,6 +1,6 @@
 // A line of an open table, by what it says.
 ghost use mathlib.Core.Path.{_≡_};
-ghost use Prim.Native.Nat.{_≤_};
+ghost use Prim.Native.Nat.{_-_, _≤_};
 ghost use lib.ListN.{take};
 ghost use Rattle.called.specs.Called.{lentOf};
 ghost use Rattle.tablelines.specs.Table.{heldOf, namedIn, givenBy, Ran, LooksAs, shorter, Asked, Answers};
@@ -98,6 +98,16 @@ fn look(
     saidtexts::say_reply(reply, out)
 }
 
+// One less; of 0, 0.
+fn one_less(n: usize) -> usize
+    ensures { λ r. ⌜ r ≡ n - 1 ⌝ }
+{
+    if n == 0 {
+        return 0;
+    }
+    n - 1
+}
+
 // `len`: the free stack is lent without its last word.
 fn len_line(
     counts: Counts,
@@ -111,8 +121,7 @@ fn len_line(
 ) -> usize
     ensures { λ r. ⌜ (r ≤ 4096) × LooksAs Lookup.WritesLive counts (shorter (lentOf rows (now (store .entry)) (now (free .entry)) (now (ready .entry)) (now (owners .entry)) (now (pool .entry)))) (take r (now (out .exit))) ⌝ }
 {
-    let n = free.len();
-    let k = if n == 0 { 0 } else { n - 1 };
+    let k = one_less(free.len());
     look(
         Lookup::WritesLive,
         counts,

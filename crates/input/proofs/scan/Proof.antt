@@ -3,8 +3,8 @@ use Prim.Native.Nat.{_-_}
 use native.Mathlib.Omega.{arith}
 use borrow.Author.Needs.{needs}
 use lib.ListN.{length}
-use Rattle.optrun.proofs.input.scan.Statement.{statement}
-use Rattle.optrun.proofs.input.scan.Tie as tie
+use Rattle.input.proofs.scan.Statement.{statement}
+use Rattle.input.proofs.scan.Tie as tie
 
 abbrev Inv-loop : tie.InvT-loop
 Inv-loop i line₀ chunk reader₀ at₀ line reader at = Unit {0}

@@ -2,8 +2,8 @@
 use mathlib.Core.Path.{sym}
 use borrow.Author.Needs.{needs}
 use lib.Seq.{length-take-le}
-use Rattle.optrun.proofs.input.scan_left.Statement.{statement}
-use Rattle.optrun.proofs.input.scan_left.Tie as tie
+use Rattle.input.proofs.scan_left.Statement.{statement}
+use Rattle.input.proofs.scan_left.Tie as tie
 
 front-requires : tie.Need-front-requires
 front-requires c κs = search needs

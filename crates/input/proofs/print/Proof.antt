@@ -2,8 +2,8 @@
 use mathlib.Core.Path.{sym}
 use lib.Seq.{length-take-le}
 use borrow.Author.Needs.{needs}
-use Rattle.optrun.proofs.input.print.Statement.{statement}
-use Rattle.optrun.proofs.input.print.Tie as tie
+use Rattle.input.proofs.print.Statement.{statement}
+use Rattle.input.proofs.print.Tie as tie
 
 front-requires : tie.Need-front-requires
 front-requires c κs = search needs
