@@ -1,6 +1,6 @@
 // One line of a trace is answered, by where the trace stands.
 mod lines;
-mod opening;
+mod unopened;
 
 pub use lines::line;
 use model::Counts;

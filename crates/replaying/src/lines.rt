@@ -4,7 +4,7 @@ ghost use Prim.Native.Nat.{_≤_};
 ghost use lib.ListN.{take};
 use crate::Answered;
 use crate::Stage;
-use crate::opening;
+use crate::unopened;
 use lineforms::Said;
 use model::Counts;
 use model::Row;
@@ -15,7 +15,7 @@ fn refused_line(said: Said, number: u64, out: &mut [u8; 4096]) -> usize {
     match said {
         Said::Comment => 0,
         Said::Bad => saidtexts::say_bad(number, out),
-        _ => opening::say_no(out),
+        _ => unopened::say_no(out),
     }
 }
 
@@ -50,7 +50,7 @@ fn table_line(
     );
     let held = a.rows;
     let counted = a.counts;
-    opening::at(Stage::Table(n), held, counted, a.flushes, a.printed)
+    unopened::at(Stage::Table(n), held, counted, a.flushes, a.printed)
 }
 
 // A line is answered.
@@ -73,11 +73,11 @@ pub fn line(
     match stage {
         Stage::Before => {
             let said = openlines::finish(r, text);
-            opening::before_line(said, number, rows, counts, flushes, out)
+            unopened::before_line(said, number, rows, counts, flushes, out)
         }
         Stage::Planned(o) => {
             let said = openlines::finish(r, text);
-            opening::planned_line(
+            unopened::planned_line(
                 said, o, r, text, number, plan, rows, counts, flushes, store, free, ready,
                 owners, pool, out,
             )
@@ -91,8 +91,8 @@ pub fn line(
         Stage::Refused => {
             let said = calllines::finish(r, text);
             let n = refused_line(said, number, out);
-            opening::at(Stage::Refused, rows, counts, flushes, n)
+            unopened::at(Stage::Refused, rows, counts, flushes, n)
         }
-        Stage::Over => opening::at(Stage::Over, rows, counts, flushes, 0),
+        Stage::Over => unopened::at(Stage::Over, rows, counts, flushes, 0),
     }
 }

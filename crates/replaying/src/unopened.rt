@@ -2,11 +2,7 @@
 ghost use mathlib.Core.Path.{_≡_};
 ghost use Prim.Native.Nat.{_≤_};
 ghost use lib.ListN.{take};
-ghost use Rattle.completion.specs.declared.Reply.the-variants.{No as turnedAway, Ok};
-ghost use Rattle.replytexts.specs.Replay.{replayText};
-ghost use Rattle.called.specs.Called.{lentOf};
-ghost use Rattle.tablelines.specs.Table.{heldOf};
-ghost use Rattle.replaying.specs.Lines.{stoodOf, limitText, noText13, beforeLine, withRegions, Tells, PlannedTo, StartTo};
+ghost use Rattle.replaying.specs.Lines.{limitText, noText13, withRegions};
 use crate::Answered;
 use crate::Stage;
 use completion::Refusal;
