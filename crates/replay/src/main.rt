@@ -28,7 +28,7 @@ fn answer(
     free: &mut [u64],
     ready: &mut [u64],
     owners: &mut [u64],
-    pool: &mut [u8],
+    pool: &mut [u8; 1048576],
 ) -> Running {
     let mut out = [0u8; 4096];
     let from = r.from;
@@ -89,7 +89,7 @@ fn turn(
     free: &mut [u64],
     ready: &mut [u64],
     owners: &mut [u64],
-    pool: &mut [u8],
+    pool: &mut [u8; 1048576],
 ) -> Running {
     let was = r.from;
     let from = input::next(was, line, chunk);
@@ -116,7 +116,7 @@ fn run(
     free: &mut [u64],
     ready: &mut [u64],
     owners: &mut [u64],
-    pool: &mut [u8],
+    pool: &mut [u8; 1048576],
 ) {
     let mut line = io::buffer();
     let mut chunk = io::buffer();
@@ -129,7 +129,15 @@ fn run(
             return;
         }
         now = turn(
-            now, &mut line, &mut chunk, plan, store, free, ready, owners, pool,
+            now,
+            &mut line,
+            &mut chunk,
+            plan,
+            store,
+            free,
+            ready,
+            owners,
+            pool,
         );
         turns -= 1;
     }

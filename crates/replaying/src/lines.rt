@@ -78,14 +78,38 @@ pub fn line(
         Stage::Planned(o) => {
             let said = openlines::finish(r, text);
             unopened::planned_line(
-                said, o, r, text, number, plan, rows, counts, flushes, store, free, ready,
-                owners, pool, out,
+                said,
+                o,
+                r,
+                text,
+                number,
+                plan,
+                rows,
+                counts,
+                flushes,
+                store,
+                free,
+                ready,
+                owners,
+                pool,
+                out,
             )
         }
         Stage::Table(n) => {
             let said = calllines::finish(r, text);
             table_line(
-                n, said, number, flushes, counts, rows, store, free, ready, owners, pool, out,
+                n,
+                said,
+                number,
+                flushes,
+                counts,
+                rows,
+                store,
+                free,
+                ready,
+                owners,
+                pool,
+                out,
             )
         }
         Stage::Refused => {

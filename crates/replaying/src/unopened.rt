@@ -150,16 +150,20 @@ pub(crate) fn planned_line(
         OpenLine::Comment => at(Stage::Planned(o), rows, counts, flushes, 0),
         OpenLine::Region => {
             let n = openlines::add_kept(r, text, plan, o.regions);
-            at(
-                Stage::Planned(with_regions(o, n)),
-                rows,
-                counts,
-                flushes,
-                0,
-            )
+            at(Stage::Planned(with_regions(o, n)), rows, counts, flushes, 0)
         }
         OpenLine::Start => start_line(
-            o, plan, rows, counts, flushes, store, free, ready, owners, pool, out,
+            o,
+            plan,
+            rows,
+            counts,
+            flushes,
+            store,
+            free,
+            ready,
+            owners,
+            pool,
+            out,
         ),
         _ => at(
             Stage::Planned(o),

@@ -156,7 +156,16 @@ fn ask(
         Asks::Nothing => still(flushes, counts, rows, 0),
         Asks::Other => still(flushes, counts, rows, saidtexts::say_bad(number, out)),
         Asks::Call(call) => run(
-            call, flushes, counts, rows, store, free, ready, owners, pool, out,
+            call,
+            flushes,
+            counts,
+            rows,
+            store,
+            free,
+            ready,
+            owners,
+            pool,
+            out,
         ),
     }
 }
@@ -201,7 +210,16 @@ pub fn answer(
             counts,
             rows,
             host_lines::fill_line(
-                buffer, at, length, seed, number, rows, store, owners, pool, out,
+                buffer,
+                at,
+                length,
+                seed,
+                number,
+                rows,
+                store,
+                owners,
+                pool,
+                out,
             ),
         ),
         Said::Sum { buffer, at, length } => still(
@@ -220,7 +238,17 @@ pub fn answer(
             let names = named(store);
             let asks = linecalls::asked(said, names, flushes);
             ask(
-                asks, number, flushes, counts, rows, store, free, ready, owners, pool, out,
+                asks,
+                number,
+                flushes,
+                counts,
+                rows,
+                store,
+                free,
+                ready,
+                owners,
+                pool,
+                out,
             )
         }
     }

@@ -80,11 +80,15 @@ loop-again c =
     let rows = a .t2 in
     let depth-is = head .loop .inv .0 in
     let n-is = head .loop .inv .1 in
-    let below : i < depth = omega (arith, n-is) in
-    (head .loop .inv .0, head .loop .inv .1, omega arith, λ n free ready owners pool o.
-    let s = stateIn n (lentOf rows (a .store .now) free ready owners pool) in
-    rw add-one (one-more s (a .b) (a .end) (freed 0) (take depth rows) i (head .loop .inv .3 n free ready owners pool o)
-    (ap (looseRow s (a .b) (a .end)) (getD-take depth rows i (freed 0) below) ∙ sym (loose .loose-row .ensures n rows free ready owners pool o i (omega (arith, depth-is, below)) refl) ∙ c .if1 .left)))
+    let below : i < depth = omega (arith, n-is) in (
+      head .loop .inv .0,
+      head .loop .inv .1,
+      omega arith,
+      λ n free ready owners pool o.
+          let s = stateIn n (lentOf rows (a .store .now) free ready owners pool) in
+          rw add-one (one-more s (a .b) (a .end) (freed 0) (take depth rows) i (head .loop .inv .3 n free ready owners pool o)
+          (ap (looseRow s (a .b) (a .end)) (getD-take depth rows i (freed 0) below) ∙ sym (loose .loose-row .ensures n rows free ready owners pool o i (omega (arith, depth-is, below)) refl) ∙ c .if1 .left)),
+    )
 
 returns-2 : tie.Need-returns-2 Inv-loop μ-loop
 unfolding stateIn

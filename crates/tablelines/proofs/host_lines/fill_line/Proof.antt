@@ -86,13 +86,15 @@ returns-2 c =
     let yes = not-false _ (word .before .if1 .left) in
     let fits = ends _ _ (a .pool .now) (a .b) (a .at) (a .n) (tested .may-fill .ensures .inside yes) in
     let same = capacity-is (a .store .now) (word .word .result) (word .word .ensures) in
-    let product = ap (λ (k : ℕ). a .b * k) same in
-    (c .say-reply .ensures .0, record {
-      may = true;
-      may-is = λ n free ready o. sym yes ∙ tested .may-fill .ensures .as-may n free ready o;
-      pool-is = c .before .before .before .before .fill .ensures ∙ ap (λ (k : ℕ). filled (k + a .at) (a .n) (a .seed) (a .pool .now)) product;
-      prints = c .say-reply .ensures .1;
-    })
+    let product = ap (λ (k : ℕ). a .b * k) same in (
+      c .say-reply .ensures .0,
+      record {
+        may = true;
+        may-is = λ n free ready o. sym yes ∙ tested .may-fill .ensures .as-may n free ready o;
+        pool-is = c .before .before .before .before .fill .ensures ∙ ap (λ (k : ℕ). filled (k + a .at) (a .n) (a .seed) (a .pool .now)) product;
+        prints = c .say-reply .ensures .1;
+      },
+    )
 
 pub fill-line-spec : {M : Type 1} → statement M
 fill-line-spec =

@@ -94,11 +94,12 @@ returns-2 c =
     let yes = not-false _ (c .before .before .before .before .if1 .left) in
     let fits = ends _ _ (a .pool .now) (a .b) (a .at) (a .n) (sym (tested .in-pool .ensures) ∙ yes) in
     let same = capacity-is (a .store .now) (tested .before .word2 .result) (tested .before .word2 .ensures) in
-    let n-is : a .b * tested .before .word2 .result + a .at + a .n - (a .b * tested .before .word2 .result + a .at) ≡ a .n = omega arith in
-    (c .say-sum .ensures .0,
-    c .say-sum .ensures .1
-    ∙ ap sumText (c .before .before .sum .ensures ∙ (λ j. sumOf (take (n-is j) (drop (a .b * same j + a .at) (a .pool .now)))))
-    ∙ sym (ap (λ (t : Bool). pick t (sumText (sumOf (take (a .n) (drop (a .b * settingsIn (a .store .now) .capacity + a .at) (a .pool .now))))) (badText (a .number))) (sym is ∙ yes)))
+    let n-is : a .b * tested .before .word2 .result + a .at + a .n - (a .b * tested .before .word2 .result + a .at) ≡ a .n = omega arith in (
+      c .say-sum .ensures .0,
+      c .say-sum .ensures .1
+          ∙ ap sumText (c .before .before .sum .ensures ∙ (λ j. sumOf (take (n-is j) (drop (a .b * same j + a .at) (a .pool .now)))))
+          ∙ sym (ap (λ (t : Bool). pick t (sumText (sumOf (take (a .n) (drop (a .b * settingsIn (a .store .now) .capacity + a .at) (a .pool .now))))) (badText (a .number))) (sym is ∙ yes)),
+    )
 
 pub sum-line-spec : {M : Type 1} → statement M
 sum-line-spec =
