@@ -1,8 +1,6 @@
 // optrun: document 01's opening and a flush count of 0. It reads lines from standard input and answers each: `piece QTAG OFFSET COUNT`, `no` and the
 // number, what a taking took, or `bad` and the line's number. What a line says, what is called and what is printed stand in the crates calllines, linecalls
 // and runner; here the input is cut at LF and the lines are counted.
-mod input;
-
 use input::Input;
 use lineforms::Said;
 use model::Counts;
@@ -22,6 +20,20 @@ fn plan() -> [u64; 70] {
     p[6] = 1024;
     p[7] = 8192;
     p
+}
+
+// What is said: nothing while the line is not complete.
+fn said_in(i: Input, line: &[u8; 4096]) -> Said {
+    if !i.whole {
+        return Said::Comment;
+    }
+    let reader = i.reader;
+    calllines::optrun_line(calllines::finish(reader, line))
+}
+
+// Prints the front of a buffer that holds any line.
+fn print_line(out: &[u8; 128], n: usize) {
+    input::print(out, n)
 }
 
 // A line is answered, and the answer printed.
@@ -49,7 +61,7 @@ fn answer(
         pool,
         &mut out,
     );
-    input::print_line(&out, a.printed);
+    print_line(&out, a.printed);
     a
 }
 
@@ -75,7 +87,7 @@ fn turn(
     let rows = r.rows;
     let counts = r.counts;
     let from = input::next(was, line, chunk);
-    let said = input::said(from, line);
+    let said = said_in(from, line);
     let a = answer(
         said,
         from.number,

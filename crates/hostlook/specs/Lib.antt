@@ -1,0 +1,1 @@
+-- This crate states nothing of its own: its contract cites what a lookup gives.

@@ -1,0 +1,4 @@
+-- Proofs about the functions of src/.
+pub mod Rows
+pub mod Loose
+pub mod May

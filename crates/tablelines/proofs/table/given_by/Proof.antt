@@ -1,0 +1,22 @@
+-- `tablelines::given_by` meets its contract: of the calls only an answer gives a flush count.
+use mathlib.Core.Path.{_≡_, sym, ap}
+use Prim.Native.Nat.{ℕ}
+use Rattle.model.specs.declared.Call.{Call}
+use Rattle.tablelines.specs.Table.{givenBy}
+use Rattle.tablelines.proofs.Lines.{none-given}
+use borrow.Author.Needs.{needs}
+use Rattle.tablelines.proofs.table.given_by.Statement.{statement}
+use Rattle.tablelines.proofs.table.given_by.Tie as tie
+
+enum-known-call : tie.Need-enum-known-call
+enum-known-call c = search needs
+
+returns : tie.Need-returns
+unfolding givenBy
+returns c = let a = c .before .before .before .args in sym (ap (λ (x : Call). givenBy x (a .flushes)) (c .before .call .given .1))
+
+returns-2 : tie.Need-returns-2
+returns-2 c = let a = c .before .args in none-given (a .call) (a .flushes) (c .match .keys2)
+
+pub given-by-spec : {M : Type 1} → statement M
+given-by-spec = tie.close (tie.spec enum-known-call returns returns-2)

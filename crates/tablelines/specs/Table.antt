@@ -1,0 +1,132 @@
+-- How a line is answered once the table is open: TRACE.md's "Calls" and "Replies".
+use mathlib.Core.Path.{_≡_}
+use mathlib.Core.Bool.{Bool}
+use mathlib.Core.List.{List, [], map}
+use Prim.Native.Nat.{ℕ, _+_, _-_}
+use lib.ListN.{length, getD, take, drop}
+use Rattle.layout.specs.Pick.{pick}
+use Rattle.completion.specs.declared.Reply.{Reply}
+use Rattle.completion.specs.declared.Reply.the-variants.{Ok}
+use Rattle.model.specs.declared.Counts.{Counts}
+use Rattle.model.specs.declared.Row.{Row}
+use Rattle.model.specs.declared.Call.{Call}
+use Rattle.model.specs.declared.Call.the-variants.{Write, ReadPage, Answer, Flushed, Take, SetGate, SetReadOnly, SetForced, ReportPoison}
+use Rattle.model.specs.declared.Lookup.{Lookup}
+use Rattle.model.specs.declared.Lookup.the-variants.{WritesLive}
+use Rattle.model.specs.Memory.{Lent, settingsIn, stateIn}
+use Rattle.called.specs.Called.{lentOf, CallsTo, LooksTo}
+use Rattle.lineforms.specs.declared.Said.{Said}
+use Rattle.lineforms.specs.declared.Said.the-variants.{Comment, Call as callSaid, Own, Count, Look, Len, Fill, Sum, Rows, Bad}
+use Rattle.linecalls.specs.declared.Named.{Named}
+use Rattle.linecalls.specs.declared.Asks.{Asks}
+use Rattle.linecalls.specs.declared.Asks.the-variants.{Nothing, Call as calls, Other}
+use Rattle.linecalls.specs.Asks.{asksOf}
+use Rattle.texts.specs.Texts.{badText}
+use Rattle.rowtexts.specs.Rows.{sumText, rowsText}
+use Rattle.replytexts.specs.Replay.{replayText}
+use Rattle.hostwrites.specs.Writes.{filled, sumOf, inPool, placeIn}
+use Rattle.mayfill.specs.MayFill.{mayFill, Open}
+
+-- what stands between two lines: "the flush count last given, 0 at first", the counts, and what is lent
+pub record Held : Type 0 where
+  pub flushes : ℕ
+  pub counts : Counts
+  pub lent : Lent
+
+abbrev pub heldOf : ℕ → Counts → Lent → Held
+heldOf flushes counts lent = record { flushes = flushes; counts = counts; lent = lent }
+
+-- "handle 0, with its own volume, id and generation": of the table's words (the model's Memory) the volume is the 8th, region 0's id and generation the
+-- 48th and the 49th
+unfoldable pub namedIn : List ℕ → Named
+namedIn store = record { volume = getD store 8 0; region = getD store 48 0; generation = getD store 49 0 }
+
+-- "the flush count last given": `A QTAG FLUSHES BACK ..` gives one
+unfoldable pub givenBy : Call → ℕ → ℕ
+givenBy (Write q) n = n
+givenBy (ReadPage q) n = n
+givenBy (Answer t a back flushes) n = flushes
+givenBy (Flushed t f) n = n
+givenBy Take n = n
+givenBy (SetGate h g) n = n
+givenBy (SetReadOnly h b) n = n
+givenBy (SetForced h b) n = n
+givenBy (ReportPoison c) n = n
+
+-- nothing is changed, and this is printed
+pub record Still (h h′ : Held) (text said : List ℕ) : Type 0 where
+  pub held : h′ ≡ h
+  pub prints : text ≡ said
+
+-- a call is made, and its reply printed
+pub record Ran (call : Call) (h h′ : Held) (text : List ℕ) : Type 0 where
+  pub reply : Reply
+  pub called : CallsTo call (h .counts) (h .lent) reply (h′ .counts) (h′ .lent)
+  pub flushes : h′ .flushes ≡ givenBy call (h .flushes)
+  pub prints : text ≡ replayText reply
+
+-- a lookup is made over what is lent, and its reply printed
+pub record LooksAs (x : Lookup) (c : Counts) (lent : Lent) (text : List ℕ) : Type 0 where
+  pub reply : Reply
+  pub looked : LooksTo x c lent reply
+  pub prints : text ≡ replayText reply
+
+abbrev pub Looks : Lookup → Lent → Held → Held → List ℕ → Type 0
+Looks x lent h h′ text = (h′ ≡ h) × LooksAs x (h .counts) lent text
+
+-- `len`: "a lookup with another length of row memory": the free stack is lent without its last word
+unfoldable pub shorter : Lent → Lent
+shorter l = record { rows = l .rows; store = l .store; free = take (length (l .free) - 1) (l .free); ready = l .ready; owners = l .owners; pool = l .pool }
+
+-- `fill BUFFER AT LENGTH SEED`, which "is `bad`" where the host may not write
+pub record FillsIn (b at n seed number : ℕ) (rows : List Row) (store owners pool pool′ text : List ℕ) : Type 0 where
+  pub may : Bool
+  pub may-is : (c : Counts) (free ready : List ℕ) → Open c (lentOf rows store free ready owners pool) → may ≡ mayFill (stateIn c (lentOf rows store free ready owners pool)) b at n
+  pub pool-is : pool′ ≡ pick may (filled (placeIn (settingsIn store .capacity) b at) n seed pool) pool
+  pub prints : text ≡ pick may (replayText Ok) (badText number)
+
+-- nothing else is changed
+unfoldable pub withPool : List ℕ → Held → Held
+withPool pool h =
+    record {
+      flushes = h .flushes;
+      counts = h .counts;
+      lent = lentOf (h .lent .rows) (h .lent .store) (h .lent .free) (h .lent .ready) (h .lent .owners) pool;
+    }
+
+abbrev pub Fills : ℕ → ℕ → ℕ → ℕ → ℕ → Held → Held → List ℕ → Type 0
+Fills b at n seed number h h′ text =
+    (h′ ≡ withPool (h′ .lent .pool) h) × FillsIn b at n seed number (h .lent .rows) (h .lent .store) (h .lent .owners) (h .lent .pool) (h′ .lent .pool) text
+
+-- `sum BUFFER AT LENGTH`; "so is `sum` outside the pool"
+unfoldable pub summed : ℕ → ℕ → ℕ → ℕ → List ℕ → List ℕ → List ℕ
+summed b at n number store pool =
+    pick (inPool (settingsIn store .buffers) (settingsIn store .capacity) pool b at n) (sumText (sumOf (take n (drop (placeIn (settingsIn store .capacity) b at) pool)))) (badText number)
+
+-- `rows`: "generations and free stack", "top of the stack first", of every open table
+abbrev pub ListsIn : Counts → List Row → List ℕ → List ℕ → List ℕ → Type 0
+ListsIn c rows store free text =
+    (ready owners pool : List ℕ) → Open c (lentOf rows store free ready owners pool)
+    → text ≡ rowsText (map (λ (r : Row). r .generation) (stateIn c (lentOf rows store free ready owners pool) .rows)) (stateIn c (lentOf rows store free ready owners pool) .free)
+
+abbrev pub Lists : Held → Held → List ℕ → Type 0
+Lists h h′ text = (h′ ≡ h) × ListsIn (h .counts) (h .lent .rows) (h .lent .store) (h .lent .free) text
+
+-- what a line of calls asks for: "A line that starts with `#` is passed over"; another form "prints `bad` and its number in the file, from 1, and changes nothing"
+unfoldable pub Asked : Asks → ℕ → Held → Held → List ℕ → Type 0
+Asked Nothing number h h′ text = Still h h′ text []
+Asked (calls c) number h h′ text = Ran c h h′ text
+Asked Other number h h′ text = Still h h′ text (badText number)
+
+-- a line's answer; `a`, `w` and `r` ask for the call that the last flush count and handle 0 make of them
+unfoldable pub Answers : Said → ℕ → Held → Held → List ℕ → Type 0
+Answers Comment number h h′ text = Still h h′ text []
+Answers (callSaid c) number h h′ text = Ran c h h′ text
+Answers (Own write b p n durable tag) number h h′ text = Asked (asksOf (Own write b p n durable tag) (namedIn (h .lent .store)) (h .flushes)) number h h′ text
+Answers (Count t n) number h h′ text = Asked (asksOf (Count t n) (namedIn (h .lent .store)) (h .flushes)) number h h′ text
+Answers (Look x) number h h′ text = Looks x (h .lent) h h′ text
+Answers Len number h h′ text = Looks WritesLive (shorter (h .lent)) h h′ text
+Answers (Fill b at n seed) number h h′ text = Fills b at n seed number h h′ text
+Answers (Sum b at n) number h h′ text = Still h h′ text (summed b at n number (h .lent .store) (h .lent .pool))
+Answers Rows number h h′ text = Lists h h′ text
+Answers Bad number h h′ text = Still h h′ text (badText number)
