@@ -9,14 +9,14 @@ use Rattle.model.specs.declared.Counts.{Counts}
 use Rattle.model.specs.declared.Opening.{Opening}
 use Rattle.submitter.specs.declared.Opened.{Opened}
 use Rattle.submitter.specs.declared.Opened.the-variants.{Table, No}
-use Rattle.wordcalls.specs.WordCalls.{OpensInWords}
+use Rattle.wholerows.specs.WholeRows.{OpensWhole}
 use Rattle.replywords.specs.ReplyWords.{replyWords}
 use Rattle.entry.specs.Entry.{partsOf, openedReply, openedCounts, OpensOut}
 
 module _ (o o′ : Opening) (same : o′ ≡ o) (plan counts rows store free ready owners pool : List ℕ) (r : Opened) (rows′ store′ free′ ready′ owners′ : List ℕ)
-    (opens : OpensInWords o′ plan rows store free ready owners pool r rows′ store′ free′ ready′ owners′) where
-  here : OpensInWords o plan rows store free ready owners pool r rows′ store′ free′ ready′ owners′
-  here = subst (λ (x : Opening). OpensInWords x plan rows store free ready owners pool r rows′ store′ free′ ready′ owners′) same opens
+    (opens : OpensWhole o′ plan rows store free ready owners pool r rows′ store′ free′ ready′ owners′) where
+  here : OpensWhole o plan rows store free ready owners pool r rows′ store′ free′ ready′ owners′
+  here = subst (λ (x : Opening). OpensWhole x plan rows store free ready owners pool r rows′ store′ free′ ready′ owners′) same opens
 
   pub is-table : (c : Counts) → r ≡ Table c → (counts′ out : List ℕ) → counts′ ≡ c .live ∷ c .ready ∷ c .submissions ∷ [] → out ≡ replyWords Ok
       → OpensOut o plan (partsOf counts rows store free ready owners pool) (partsOf counts′ rows′ store′ free′ ready′ owners′ pool) out

@@ -1,5 +1,5 @@
 -- "contracts give values": what each function that a host in C or Rust calls leaves in what the host lends and in `out`. The promises are those of a host that
--- lends records (wordcalls: OpensInWords, CallsInWords, LooksInWords); `out` gets the reply's words (replywords: replyWords). A code that names nothing changes
+-- lends records (wholerows: OpensWhole, CallsWhole, LooksWhole); `out` gets the reply's words (replywords: replyWords). A code that names nothing changes
 -- nothing, and gets a case of its own.
 use mathlib.Core.Path.{_≡_}
 use mathlib.Core.List.{List, [], _∷_}
@@ -12,7 +12,7 @@ use Rattle.model.specs.declared.Lookup.{Lookup}
 use Rattle.model.specs.declared.Opening.{Opening}
 use Rattle.submitter.specs.declared.Opened.{Opened}
 use Rattle.submitter.specs.declared.Opened.the-variants.{Table, No}
-use Rattle.wordcalls.specs.WordCalls.{OpensInWords, CallsInWords, LooksInWords}
+use Rattle.wholerows.specs.WholeRows.{OpensWhole, CallsWhole, LooksWhole}
 use Rattle.replywords.specs.ReplyWords.{replyWords, unknownWords}
 use Rattle.asked.specs.declared.Asked.{Asked}
 use Rattle.asked.specs.declared.Asked.the-variants.{Call, Unknown}
@@ -33,7 +33,7 @@ partsOf counts rows store free ready owners pool = record { counts = counts; row
 -- a call: its reply, what it leaves, and the reply's words
 pub record CallsOut (call : HostCall) (p p′ : Parts) (out : List ℕ) : Type 0 where
   pub reply : Reply
-  pub calls : CallsInWords call (p .counts) (p .rows) (p .store) (p .free) (p .ready) (p .owners) (p .pool) reply (p′ .counts) (p′ .rows) (p′ .store) (p′ .free) (p′ .ready) (p′ .owners) (p′ .pool)
+  pub calls : CallsWhole call (p .counts) (p .rows) (p .store) (p .free) (p .ready) (p .owners) (p .pool) reply (p′ .counts) (p′ .rows) (p′ .store) (p′ .free) (p′ .ready) (p′ .owners) (p′ .pool)
   pub out-is : out ≡ replyWords reply
 
 -- what is asked for: a call, or nothing
@@ -44,7 +44,7 @@ AnswersOut Unknown p p′ out = (p′ ≡ p) × (out ≡ unknownWords)
 -- a lookup: it changes nothing
 pub record LooksOut (x : Lookup) (p : Parts) (out : List ℕ) : Type 0 where
   pub reply : Reply
-  pub looks : LooksInWords x (p .counts) (p .rows) (p .store) (p .free) (p .ready) (p .owners) (p .pool) reply
+  pub looks : LooksWhole x (p .counts) (p .rows) (p .store) (p .free) (p .ready) (p .owners) (p .pool) reply
   pub out-is : out ≡ replyWords reply
 
 -- an opening: "Is all this so, and the row memory long enough? No: 13." The table's counts go to their words; refused, those stay too.
@@ -58,7 +58,7 @@ openedCounts (No f) counts = counts
 
 pub record OpensOut (o : Opening) (plan : List ℕ) (p p′ : Parts) (out : List ℕ) : Type 0 where
   pub opened : Opened
-  pub opens : OpensInWords o plan (p .rows) (p .store) (p .free) (p .ready) (p .owners) (p .pool) opened (p′ .rows) (p′ .store) (p′ .free) (p′ .ready) (p′ .owners)
+  pub opens : OpensWhole o plan (p .rows) (p .store) (p .free) (p .ready) (p .owners) (p .pool) opened (p′ .rows) (p′ .store) (p′ .free) (p′ .ready) (p′ .owners)
   pub counts-are : p′ .counts ≡ openedCounts opened (p .counts)
   pub pool-is : p′ .pool ≡ p .pool
   pub out-is : out ≡ replyWords (openedReply opened)

@@ -27,7 +27,7 @@ fn answer(
 )
     ensures { λ _. ⌜ CallsOut call (partsOf (now (counts .entry)) (now (rows .entry)) (now (store .entry)) (now (free .entry)) (now (ready .entry)) (now (owners .entry)) (now (pool .entry))) (partsOf (now (counts .exit)) (now (rows .exit)) (now (store .exit)) (now (free .exit)) (now (ready .exit)) (now (owners .exit)) (now (pool .exit))) (now (out .exit)) ⌝ }
 {
-    let reply = wordcalls::call_words(call, counts, rows, store, free, ready, owners, pool);
+    let reply = wholerows::call_whole(call, counts, rows, store, free, ready, owners, pool);
     replywords::put_reply(reply, out);
 }
 
@@ -69,7 +69,7 @@ pub extern "C" fn table_open(
     ensures { λ _. ⌜ OpensOut (settingsIn (now (opening .entry))) (now (plan .entry)) (partsOf (now (counts .entry)) (now (rows .entry)) (now (store .entry)) (now (free .entry)) (now (ready .entry)) (now (owners .entry)) (now (pool .entry))) (partsOf (now (counts .exit)) (now (rows .exit)) (now (store .exit)) (now (free .exit)) (now (ready .exit)) (now (owners .exit)) (now (pool .entry))) (now (out .exit)) ⌝ }
 {
     let o = asked::opening_of(opening);
-    let opened = wordcalls::open_words(o, plan, rows, store, free, ready, owners, pool);
+    let opened = wholerows::open_whole(o, plan, rows, store, free, ready, owners, pool);
     match opened {
         Opened::Table(c) => {
             *counts = [c.live, c.ready, c.submissions];
@@ -326,7 +326,7 @@ pub extern "C" fn table_writes_live(
 )
     ensures { λ _. ⌜ LooksOut WritesLive (partsOf (now (counts .entry)) (now (rows .entry)) (now (store .entry)) (now (free .entry)) (now (ready .entry)) (now (owners .entry)) (now (pool .entry))) (now (out .exit)) ⌝ }
 {
-    let reply = wordcalls::lookup_words(
+    let reply = wholerows::lookup_whole(
         Lookup::WritesLive,
         counts,
         rows,
@@ -353,7 +353,7 @@ pub extern "C" fn table_mark(
 )
     ensures { λ _. ⌜ LooksOut Mark (partsOf (now (counts .entry)) (now (rows .entry)) (now (store .entry)) (now (free .entry)) (now (ready .entry)) (now (owners .entry)) (now (pool .entry))) (now (out .exit)) ⌝ }
 {
-    let reply = wordcalls::lookup_words(
+    let reply = wholerows::lookup_whole(
         Lookup::Mark,
         counts,
         rows,

@@ -8,8 +8,8 @@ use Rattle.entry.proofs.table_open.Tie as tie
 opening-of-requires : tie.Need-opening-of-requires
 opening-of-requires c κs = search needs
 
-open-words-requires : tie.Need-open-words-requires
-open-words-requires c κs = search needs
+open-whole-requires : tie.Need-open-whole-requires
+open-whole-requires c κs = search needs
 
 enum-known-opened : tie.Need-enum-known-opened
 enum-known-opened c = search needs
@@ -42,7 +42,7 @@ returns : tie.Need-returns
 returns c =
     let p = c .before .before .before .before .before .before .before .before .before .before .before .before .before .before .before .before in
     let a = c .before .before .before .before .before .before .before .before .before .before .before .before .before .before .before .before .before .before .before .before .before .before .before .before .before .before .before .before .before .before .args in
-    is-table _ _ (p .before .before .before .before .before .before .opening-of .ensures) (a .plan .now) (a .counts .now) (a .rows .now) (a .store .now) (a .free .now) (a .ready .now) (a .owners .now) (a .pool .now) (p .open-words .result) _ _ _ _ _ (p .open-words .ensures) _ (c .before .before .before .before .opened .given .1) _ _ refl (c .put-whole .ensures)
+    is-table _ _ (p .before .before .before .before .before .before .opening-of .ensures) (a .plan .now) (a .counts .now) (a .rows .now) (a .store .now) (a .free .now) (a .ready .now) (a .owners .now) (a .pool .now) (p .open-whole .result) _ _ _ _ _ (p .open-whole .ensures) _ (c .before .before .before .before .opened .given .1) _ _ refl (c .put-whole .ensures)
 
 same-length-6 : tie.Need-same-length-6
 same-length-6 c = search needs
@@ -63,14 +63,14 @@ returns-2 : tie.Need-returns-2
 returns-2 c =
     let p = c .before .before .before .before .before .before .before .before .before .before .before .before .before .before .before in
     let a = c .before .before .before .before .before .before .before .before .before .before .before .before .before .before .before .before .before .before .before .before .before .before .before .before .before .before .before .before .before .args in
-    is-refused _ _ (p .before .before .before .before .before .before .opening-of .ensures) (a .plan .now) (a .counts .now) (a .rows .now) (a .store .now) (a .free .now) (a .ready .now) (a .owners .now) (a .pool .now) (p .open-words .result) _ _ _ _ _ (p .open-words .ensures) _ (c .before .before .before .opened2 .given .1) _ (c .put-whole2 .ensures)
+    is-refused _ _ (p .before .before .before .before .before .before .opening-of .ensures) (a .plan .now) (a .counts .now) (a .rows .now) (a .store .now) (a .free .now) (a .ready .now) (a .owners .now) (a .pool .now) (p .open-whole .result) _ _ _ _ _ (p .open-whole .ensures) _ (c .before .before .before .opened2 .given .1) _ (c .put-whole2 .ensures)
 
 pub table-open-spec : {M : Type 1} → statement M
 table-open-spec =
     tie.close
     (tie.spec
     opening-of-requires
-    open-words-requires
+    open-whole-requires
     enum-known-opened
     put-whole-requires
     enum-known-opened-2

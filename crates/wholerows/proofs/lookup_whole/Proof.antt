@@ -1,0 +1,17 @@
+-- `wholerows::lookup_whole` meets its contract: a lookup over whole rows is wordcalls', and over others nothing is done.
+use mathlib.Core.Path.{refl}
+use borrow.Author.Needs.{needs}
+use Rattle.wholerows.proofs.lookup_whole.Statement.{statement}
+use Rattle.wholerows.proofs.lookup_whole.Tie as tie
+
+lookup-words-requires : tie.Need-lookup-words-requires
+lookup-words-requires c κs = search needs
+
+returns : tie.Need-returns
+returns c = record { whole = λ w. search needs; cut = λ no. absurd (no (search needs)) }
+
+returns-2 : tie.Need-returns-2
+returns-2 c = record { whole = λ w. absurd (c .if1 .left w); cut = λ no. refl }
+
+pub lookup-whole-spec : {M : Type 1} → statement M
+lookup-whole-spec = tie.close (tie.spec lookup-words-requires returns returns-2)
