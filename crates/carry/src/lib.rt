@@ -25,7 +25,15 @@ pub fn carry(
 {
     match f {
         Finished::Away(refusal) => called::away(row, refusal),
-        Finished::Next { awaits, turn } => advance::go_on(awaits, turn, qtag, row, o.capacity, store, pool),
+        Finished::Next { awaits, turn } => advance::go_on(
+            awaits,
+            turn,
+            qtag,
+            row,
+            o.capacity,
+            store,
+            pool,
+        ),
         Finished::Ended {
             outcome,
             buf,
@@ -46,6 +54,15 @@ pub fn carry(
             owners,
             pool,
         ),
-        Finished::Rejected { raw, buf } => abort::abort(raw, buf, qtag, row, g, counts.live, free, owners),
+        Finished::Rejected { raw, buf } => abort::abort(
+            raw,
+            buf,
+            qtag,
+            row,
+            g,
+            counts.live,
+            free,
+            owners,
+        ),
     }
 }

@@ -10,7 +10,15 @@ use model::Request;
 use model::Row;
 
 // A write is submitted.
-fn write(q: Request, row: Row, counts: Counts, rows: usize, store: &[u64], free: &[u64], owners: &mut [u64]) -> Touched
+fn write(
+    q: Request,
+    row: Row,
+    counts: Counts,
+    rows: usize,
+    store: &[u64],
+    free: &[u64],
+    owners: &mut [u64],
+) -> Touched
     ensures { λ r. ⌜ ((ready pool : List ℕ) → ArmTo (writeCall q) row counts rows (now (store .entry)) (now (free .entry)) ready (now (owners .entry)) pool r (now (store .entry)) (now (free .entry)) ready (now (owners .exit)) pool) ⌝ }
 {
     let v = submission::write(counts, store, free, owners, q);
@@ -18,7 +26,15 @@ fn write(q: Request, row: Row, counts: Counts, rows: usize, store: &[u64], free:
 }
 
 // A read is submitted.
-fn read_page(q: Request, row: Row, counts: Counts, rows: usize, store: &[u64], free: &[u64], owners: &mut [u64]) -> Touched
+fn read_page(
+    q: Request,
+    row: Row,
+    counts: Counts,
+    rows: usize,
+    store: &[u64],
+    free: &[u64],
+    owners: &mut [u64],
+) -> Touched
     ensures { λ r. ⌜ ((ready pool : List ℕ) → ArmTo (readCall q) row counts rows (now (store .entry)) (now (free .entry)) ready (now (owners .entry)) pool r (now (store .entry)) (now (free .entry)) ready (now (owners .exit)) pool) ⌝ }
 {
     let v = submission::read_page(counts, store, free, owners, q);
@@ -47,8 +63,32 @@ pub fn arm(
             answer,
             back,
             flushes,
-        } => answers::answer(qtag, answer, back, flushes, row, counts, rows, store, free, ready, owners, pool),
-        Call::Flushed { qtag, result } => answers::flushed(qtag, result, row, counts, rows, store, free, ready, owners, pool),
+        } => answers::answer(
+            qtag,
+            answer,
+            back,
+            flushes,
+            row,
+            counts,
+            rows,
+            store,
+            free,
+            ready,
+            owners,
+            pool,
+        ),
+        Call::Flushed { qtag, result } => answers::flushed(
+            qtag,
+            result,
+            row,
+            counts,
+            rows,
+            store,
+            free,
+            ready,
+            owners,
+            pool,
+        ),
         Call::Take => taking::take(row, counts, store, ready, owners),
         Call::SetGate { handle, gate } => regionmarks::set_gate(row, store, handle, gate),
         Call::SetReadOnly { handle, on } => regionmarks::set_read_only(row, store, handle, on),

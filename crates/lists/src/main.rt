@@ -12,7 +12,12 @@ fn is_list(r: Reader, line: &[u8; 4096]) -> bool {
     if r.kept != 6 {
         return false;
     }
-    line[0] == b'#' && line[1] == b' ' && line[2] == b'l' && line[3] == b'i' && line[4] == b's' && line[5] == b't'
+    line[0] == b'#'
+        && line[1] == b' '
+        && line[2] == b'l'
+        && line[3] == b'i'
+        && line[4] == b's'
+        && line[5] == b't'
 }
 
 // The first line of a trace.
