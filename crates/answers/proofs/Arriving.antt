@@ -38,7 +38,7 @@ use Rattle.settle.specs.declared.Finished.{Finished}
 use Rattle.settle.specs.declared.Finished.the-variants.{Away}
 use Rattle.settle.specs.Finished.{fateBy, planWith}
 use Rattle.carried.specs.Carried.{storeBy, freeBy, readyBy, ownersBy, poolBy, TouchedBy, Carried}
-use Rattle.answers.specs.UnderWay.{knownAs, AnswerIn, FinishedIn, FlushedIn}
+use Rattle.underway.specs.UnderWay.{knownAs, AnswerIn, FinishedIn, FlushedIn}
 use Rattle.answers.proofs.Turned.{unknown, past-depth, not-named, beyond-none}
 use Rattle.answers.proofs.Holding.{in-table}
 use Rattle.answers.proofs.Wording.{AnswerFits, ResultFits, InputFits}

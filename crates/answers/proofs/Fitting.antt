@@ -26,7 +26,7 @@ use Rattle.liveregion.specs.declared.LiveRegion.{LiveRegion}
 use Rattle.firstpiece.specs.Piece.{PieceIn}
 use Rattle.firstpiece.proofs.Found.{piece-there}
 use Rattle.settle.specs.Finished.{planWith, PieceFits}
-use Rattle.answers.specs.UnderWay.{PieceUnderWay, UnderWay}
+use Rattle.underway.specs.UnderWay.{PieceUnderWay, UnderWay}
 use Rattle.answers.proofs.Replies.{starts-inside}
 
 -- bytes are left, and the total is within the range's end

@@ -1,5 +1,4 @@
 -- What the proofs of this crate share.
-pub mod Naming
 pub mod Turned
 pub mod Parts
 pub mod Settling

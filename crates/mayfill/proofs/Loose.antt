@@ -24,7 +24,7 @@ use Rattle.step.specs.Lists.{loose, planAt}
 use Rattle.called.specs.Called.{lentOf}
 use Rattle.liveregion.specs.Live.{liveOf}
 use Rattle.settle.specs.Finished.{planWith, PieceFits}
-use Rattle.answers.specs.UnderWay.{PieceUnderWay, UnderWay}
+use Rattle.underway.specs.UnderWay.{PieceUnderWay, UnderWay}
 use Rattle.answers.proofs.Turned.{row-at}
 use Rattle.answers.proofs.Fitting.{under-way-fits}
 use types.Run.{OneOf, miss}

@@ -19,7 +19,7 @@ use Rattle.step.specs.Questions.{heldAt}
 use Rattle.step.specs.Sound.{Sound}
 use Rattle.step.specs.Lists.{loose, planAt}
 use Rattle.called.specs.Called.{lentOf}
-use Rattle.answers.specs.UnderWay.{PieceUnderWay}
+use Rattle.underway.specs.UnderWay.{PieceUnderWay}
 use Rattle.hostwrites.specs.Writes.{inPool}
 
 -- a read's piece is under way
