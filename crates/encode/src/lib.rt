@@ -61,7 +61,7 @@ fn outcome_words(x: Outcome) -> [u64; 10]
         Outcome::Unknown(r, e) => cause_words(4, r, e),
         Outcome::Interrupted(r) => range_words(5, r, 0, 0, 0),
         Outcome::Corruption(r) => range_words(6, r, 0, 0, 0),
-        Outcome::Io { range, op, raw } => range_words(7, range, causes::op_word(op), 0, raw as u64),
+        Outcome::Io { range, op, raw } => range_words(7, range, causes::op_word(op), 1, raw as u64),
         Outcome::QueueFull(r) => range_words(8, r, 0, 0, 0),
         Outcome::Poisoned(e) => cause_words(
             9,

@@ -185,7 +185,7 @@ outcomeWords (Read n) = 3 ∷ 0 ∷ 0 ∷ 0 ∷ 0 ∷ n ∷ 0 ∷ 0 ∷ 0 ∷ []
 outcomeWords (Unknown r e) = 4 ∷ r .region ∷ r .start .0 ∷ r .end .0 ∷ 0 ∷ 0 ∷ opWord (e .op) ∷ hasWord (e .raw) ∷ rawWord (e .raw) ∷ []
 outcomeWords (Interrupted r) = 5 ∷ r .region ∷ r .start .0 ∷ r .end .0 ∷ 0 ∷ 0 ∷ 0 ∷ 0 ∷ 0 ∷ []
 outcomeWords (Corruption r) = 6 ∷ r .region ∷ r .start .0 ∷ r .end .0 ∷ 0 ∷ 0 ∷ 0 ∷ 0 ∷ 0 ∷ []
-outcomeWords (Io r op n) = 7 ∷ r .region ∷ r .start .0 ∷ r .end .0 ∷ 0 ∷ 0 ∷ opWord op ∷ 0 ∷ n ∷ []
+outcomeWords (Io r op n) = 7 ∷ r .region ∷ r .start .0 ∷ r .end .0 ∷ 0 ∷ 0 ∷ opWord op ∷ 1 ∷ n ∷ []
 outcomeWords (QueueFull r) = 8 ∷ r .region ∷ r .start .0 ∷ r .end .0 ∷ 0 ∷ 0 ∷ 0 ∷ 0 ∷ 0 ∷ []
 outcomeWords (poisonedBy e) = 9 ∷ 0 ∷ 0 ∷ 0 ∷ 0 ∷ 0 ∷ opWord (e .op) ∷ hasWord (e .raw) ∷ rawWord (e .raw) ∷ []
 

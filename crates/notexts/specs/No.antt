@@ -1,4 +1,4 @@
--- What replay prints of a refusal: "`no N`, then the context, where there is one".
+-- What replay prints of a refusal: `no N`, "then the context, where there is one".
 use mathlib.Core.List.{List, [], _∷_, _++_}
 use Prim.Native.Nat.{ℕ}
 use Rattle.completion.specs.declared.Refusal.{Refusal}

@@ -7,6 +7,6 @@ use Rattle.textparts.specs.Parts.{tookWord}
 use Rattle.tickettexts.specs.Tickets.{bufferText}
 use Rattle.outcometexts.specs.Outcomes.{outcomeText}
 
--- "`took TAG OUTCOME`, then ` buffer B LENGTH` or ` lost`"
+-- `took TAG OUTCOME`, "then ` buffer B LENGTH` or ` lost`"
 unfoldable pub tookText : Completion → List ℕ
 tookText c = tookWord ++ spaced (c .tag) ++ outcomeText (c .outcome) ++ bufferText (c .buf) ++ (10 ∷ [])

@@ -8,7 +8,8 @@
 --                  9 its length
 -- 4 done           1 queue tag
 -- 5 a flush        1 queue tag, 2 need
--- 6 a completion   1 to 16 its words (the model's Memory: completionWords)
+-- 6 a completion   1 to 16 its words (the model's Memory: completionWords). Of the ticket and the receipt they hold what the opening does not say: the volume, the class,
+--                  the label and the epoch are the opening's; untorn and prefix are false; a receipt is synced unless its need is 0 or 2^64 − 1 (completionIn)
 -- 7 none ready     8 a setting, a report or an opening was taken
 -- 9 writes         1 whether a write awaits a piece        10 the mark    1 the mark
 -- 11 a code that names nothing, outside document 01's numbers: nothing was asked, and nothing has changed

@@ -18,11 +18,10 @@ use Rattle.step.specs.Step.{durableAs, claimedBy, oneMore, accepted, row
 use Rattle.step.specs.Step.{completionOf, rejection, settled, fateOf, underTag, givenBack, taken, withRegions, marked, withForced}
 use Rattle.step.specs.Step.{queueTag, topOf, rowAt, verdictOf, writeVerdict, readVerdict, submitted, eqLengths, called, step}
 use Rattle.step.specs.Laws.{issuedUpTo}
-use Rattle.step.specs.Figures.{figuresOpening, figuresPlan, figuresLengths, figuresTable, asking, replyAfter, tableAfter, numberOf, valuesOf, durably, inBuffer, rangeThere, byWrite, lastGeneration, generationAfter, receiptSynced, synced, Figures}
-use Rattle.step.specs.Figures as table
+use Rattle.step.specs.Figures.{figuresOpening, figuresPlan, figuresLengths, figuresTable, asking, replyAfter, tableAfter, numberOf, valuesOf, durably, inBuffer, rangeThere, byWrite, lastGeneration, generationAfter, receiptSynced, synced, ticketThere, Figures}
 
 pub figures : Figures
-unfolding figuresOpening figuresPlan figuresLengths figuresTable asking replyAfter tableAfter durably inBuffer rangeThere byWrite lastGeneration generationAfter receiptSynced synced table.ticketOf numberOf number valuesOf values contextValues rangeFrom issuedUpTo
+unfolding figuresOpening figuresPlan figuresLengths figuresTable asking replyAfter tableAfter durably inBuffer rangeThere byWrite lastGeneration generationAfter receiptSynced synced ticketThere numberOf number valuesOf values contextValues rangeFrom issuedUpTo
     opOf firstOf lastOf rangeOf pieceOf pieceLength bufferAs errorOf turnedBack isWritten causeOf failedRead readOutcome readLength ticketOf unflushed writtenAs lastPiece
     abovePiece isRefusal firstRefused isWhole goesOn splitAfter pieceAnswered flushOutcome flushEnds answerRules flushRules rules receiptFor
     durableAs claimedBy oneMore accepted rowOf generationOf isLive names bytesAt raised awaitsNow oneLess keptBy poisonWith going freeing planOf asksFor

@@ -62,8 +62,8 @@ tableAfter s (c ∷ cs) = tableAfter (step s figuresLengths c .0) cs
 unfoldable pub replyAfter : List Call → Call → Reply
 replyAfter cs c = step (tableAfter figuresTable cs) figuresLengths c .1
 
-abbrev pub replyTo : Call → Reply
-replyTo c = replyAfter [] c
+abbrev pub replyAtFirst : Call → Reply
+replyAtFirst c = replyAfter [] c
 
 -- `a QTAG COUNT`: the buffer is back, the flush count is 0
 abbrev pub answers : ℕ → ℕ → Call
@@ -78,8 +78,8 @@ unfoldable pub inBuffer : ℕ → Request → Request
 inBuffer b q = record { handle = q .handle; volume = q .volume; region = q .region; generation = q .generation; offset = q .offset; buffer = b; length = q .length; durable = q .durable; tag = q .tag }
 
 -- the ticket of 512 to 1,536 with a need
-unfoldable pub ticketOf : ℕ → WriteTicket
-ticketOf need = record { volume = 1; region = 7; generation = 3; start = positionOf 512; end = positionOf 1536; need = need; epoch = 0 }
+unfoldable pub ticketThere : ℕ → WriteTicket
+ticketThere need = record { volume = 1; region = 7; generation = 3; start = positionOf 512; end = positionOf 1536; need = need; epoch = 0 }
 
 -- its range
 unfoldable pub rangeThere : Range
@@ -156,28 +156,28 @@ pub record Figures : Type 0 where
   -- the opening is admitted
   pub opens-them : opens figuresOpening figuresPlan figuresLengths ≡ true
   -- "*Write 512, length 1,024: tag 0, piece (1,536, 512)."
-  pub write-512 : replyTo (Write (asking 512 1024)) ≡ piece 0 (offsetOf 1536) 512 0
+  pub write-512 : replyAtFirst (Write (asking 512 1024)) ≡ piece 0 (offsetOf 1536) 512 0
   pub two-pieces : issuedUpTo 1024 (regionAt figuresTable 0 .map) 512 (begun 1024) ≡ found 1536 512 ∷ found 8192 512 ∷ []
   -- "*Answer 512: piece (8,192, 512)."
   pub answer-512 : replyAfter (Write (asking 512 1024) ∷ []) (answers 0 512) ≡ piece 0 (offsetOf 8192) 512 0
   -- "*Answer 512: written 512 to 1,536, need 1."
   pub done-then : replyAfter (Write (asking 512 1024) ∷ answers 0 512 ∷ []) (answers 0 512) ≡ Done 0
-  pub written : replyAfter (Write (asking 512 1024) ∷ answers 0 512 ∷ answers 0 512 ∷ []) Take ≡ Took (record { tag = 70; outcome = Written (ticketOf 1); buf = Back 0 1024 })
+  pub written : replyAfter (Write (asking 512 1024) ∷ answers 0 512 ∷ answers 0 512 ∷ []) Take ≡ Took (record { tag = 70; outcome = Written (ticketThere 1); buf = Back 0 1024 })
   -- "*Row 0 then gives tag 4,294,967,296."
   pub next-tag : replyAfter (Write (asking 512 1024) ∷ answers 0 512 ∷ answers 0 512 ∷ Take ∷ []) (Write (asking 512 1024)) ≡ piece 4294967296 (offsetOf 1536) 512 0
   -- "*Length 512 at 1,536: one piece, offset 8,704."
-  pub at-1536 : replyTo (Write (asking 1536 512)) ≡ piece 0 (offsetOf 8704) 512 0
+  pub at-1536 : replyAtFirst (Write (asking 1536 512)) ≡ piece 0 (offsetOf 8704) 512 0
   pub one-piece : issuedUpTo 512 (regionAt figuresTable 0 .map) 1536 (begun 512) ≡ found 8704 512 ∷ []
   -- "*Length 1,024 there: 10. *Offset 2^64 − 512, length 512: 10."
-  pub too-long : numberOf (replyTo (Write (asking 1536 1024))) ≡ some 10
-  pub far-out : numberOf (replyTo (Write (asking (2 ^ 64 - 512) 512))) ≡ some 10
+  pub too-long : numberOf (replyAtFirst (Write (asking 1536 1024))) ≡ some 10
+  pub far-out : numberOf (replyAtFirst (Write (asking (2 ^ 64 - 512) 512))) ≡ some 10
   -- "*Read of 512 at 256: 9. *Write of 512 at 256: offset 1,280."
-  pub read-256 : numberOf (replyTo (ReadPage (asking 256 512))) ≡ some 9
-  pub write-256 : replyTo (Write (asking 256 512)) ≡ piece 0 (offsetOf 1280) 512 0
+  pub read-256 : numberOf (replyAtFirst (ReadPage (asking 256 512))) ≡ some 9
+  pub write-256 : replyAtFirst (Write (asking 256 512)) ≡ piece 0 (offsetOf 1280) 512 0
   -- (ours: the context of that read's 9, "the region's id", and "the range")
-  pub read-256-values : valuesOf (replyTo (ReadPage (asking 256 512))) ≡ range 7 (positionOf 256) (positionOf 768)
+  pub read-256-values : valuesOf (replyAtFirst (ReadPage (asking 256 512))) ≡ range 7 (positionOf 256) (positionOf 768)
   -- "*Length 0: 8."
-  pub empty : numberOf (replyTo (Write (asking 512 0))) ≡ some 8
+  pub empty : numberOf (replyAtFirst (Write (asking 512 0))) ≡ some 8
   -- "*One live, one ready: 3."
   pub live-and-ready : numberOf (replyAfter (Write (asking 512 512) ∷ answers 0 512 ∷ Write (inBuffer 1 (asking 512 512)) ∷ []) (Write (inBuffer 2 (asking 512 512)))) ≡ some 3
   -- "Two pieces of 512, second answered 100: *the read ends 612"

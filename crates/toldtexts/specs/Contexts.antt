@@ -11,7 +11,7 @@ regionWord = 32 ∷ 114 ∷ 101 ∷ 103 ∷ 105 ∷ 111 ∷ 110 ∷ []
 abbrev pub causeWord : List ℕ
 causeWord = 32 ∷ 99 ∷ 97 ∷ 117 ∷ 115 ∷ 101 ∷ []
 
--- "`no N`, then the context, where there is one: ` region ID`, ` region ID START END`, ` cause OP ERR`"
+-- "then the context, where there is one: ` region ID`, ` region ID START END`, ` cause OP ERR`"
 unfoldable pub contextText : Values → List ℕ
 contextText nothing = []
 contextText (region id) = fieldsOf regionWord (id ∷ [])

@@ -24,7 +24,8 @@ use Rattle.called.specs.declared.Touched.{Touched}
 use Rattle.called.specs.Called.{lentOf, placeOf, CallsTo, TouchesTo}
 use Rattle.rowwords.specs.RowWords.{rowsIn, rowPut}
 use Rattle.rowwords.proofs.Laws.{count, put-long, put-others}
-use Rattle.wordcalls.specs.WordCalls.{countsIn, lentIn, CallsInWords, isAway}
+use Rattle.step.specs.Lists.{isAway}
+use Rattle.wordcalls.specs.WordCalls.{countsIn, lentIn, CallsInWords}
 
 -- a call that is turned away, by its refusal
 pub refusal-of : {A : Type 0} (r : Reply) → isAway r ≡ true → ((f : Refusal) → r ≡ turnedAway f → A) → A

@@ -1,14 +1,13 @@
 -- "The host lends row memory and a pool": the same table, the rows in words (rowwords: rowsIn) and the counts in three words. The promises are the very ones of
 -- a host that lends records (OpensTo of the submitter, CallsTo and LooksTo of called), and what is left of the rows' words besides.
 use mathlib.Core.Path.{_≡_}
-use mathlib.Core.Bool.{Bool, true, false}
 use mathlib.Core.Logic.{_⊎_}
 use mathlib.Core.List.{List}
 use Prim.Native.Nat.{ℕ, _+_, _*_, _≤_, _<_}
 use lib.ListN.{length, getD, drop}
 use Rattle.completion.specs.declared.Refusal.{Refusal}
 use Rattle.completion.specs.declared.Reply.{Reply}
-use Rattle.completion.specs.declared.Reply.the-variants.{Piece, No as turnedAway, Rejected, Done, Flush, Took, None, Ok, Writes, Mark}
+use Rattle.completion.specs.declared.Reply.the-variants.{No as turnedAway}
 use Rattle.model.specs.declared.Call.{Call}
 use Rattle.model.specs.declared.Counts.{Counts}
 use Rattle.model.specs.declared.Lookup.{Lookup}
@@ -47,16 +46,3 @@ pub record CallsInWords (call : Call) (counts rows store free ready owners pool 
 -- what a lookup gives: it changes nothing
 abbrev pub LooksInWords : Lookup → List ℕ → List ℕ → List ℕ → List ℕ → List ℕ → List ℕ → List ℕ → Reply → Type 0
 LooksInWords x counts rows store free ready owners pool r = LooksTo x (countsIn counts) (lentIn rows store free ready owners pool) r
-
--- for the code: whether a call is turned away
-unfoldable pub isAway : Reply → Bool
-isAway (Piece qtag offset count buffer) = false
-isAway (turnedAway f) = true
-isAway (Rejected range op raw buf) = false
-isAway (Done qtag) = false
-isAway (Flush qtag need) = false
-isAway (Took c) = false
-isAway None = false
-isAway Ok = false
-isAway (Writes on) = false
-isAway (Mark n) = false

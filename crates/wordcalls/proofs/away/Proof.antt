@@ -1,6 +1,6 @@
 -- `wordcalls::away` meets its contract: one case is turned away.
 use Rattle.wordcalls.proofs.Calling.{not-away}
-use Rattle.wordcalls.specs.WordCalls.{isAway}
+use Rattle.step.specs.Lists.{isAway}
 use borrow.Author.Needs.{needs}
 use Rattle.wordcalls.proofs.away.Statement.{statement}
 use Rattle.wordcalls.proofs.away.Tie as tie
