@@ -24,13 +24,14 @@ use Rattle.step.specs.Laws.{Made, Made.calls, Event, leave, done, replyT
 use Rattle.step.specs.Lists.{Completed, Hosted}
 use Rattle.step.specs.Alone.{tagGiven}
 use Rattle.step.specs.Demand3.{Start, openedBy, after}
-use Rattle.step.specs.Demand2.{Served, Accepted, bufferThen, begun, getsIn, Wrote, DidRead, Followed, AllWhole, isKept, Demand2}
+use Rattle.step.specs.Demand2.{Served, Accepted, bufferThen, begun, getsIn, Issues, Wrote, DidRead, Followed, AllWhole, isKept, Demand2}
 use Rattle.step.proofs.Demand2Others.{card-others, pool-others}
 use Rattle.step.proofs.Demand2Bytes.{gathered-length, gathered-at}
 use Rattle.step.proofs.Demand2Fate.{pages}
 use Rattle.step.proofs.Demand2Task.{Task}
 use Rattle.step.proofs.Demand2Kept.{stage-writes, kept-from}
 use Rattle.step.proofs.Demand2Walk.{Along, walk}
+use Rattle.step.proofs.Demand2Ends.{stands, awaited, ends, not-before}
 use Rattle.step.proofs.Demand2Begun.{Begun, begun-write, begun-read, before, may, then-length, task, opens}
 
 -- an accepted submission of a kind, with the bytes that its range is to end with
@@ -49,9 +50,11 @@ module _ (x : Start) (h : List Event) (e : Event) (t : ℕ) (q : Request) (hoste
     abbrev its : Task
     its = task x (after x h) (before x h e hosted .sound) (before x h e hosted .fixed) e (may x h e hosted) q k t g first last new long of-write
 
-    along : (card : Card) → (pages k ≡ false → (i : ℕ) → i < q .length → card (place m (q .offset .0 + i)) ≡ getD new i 0) → (es : List Event) → Served (begun x h e) es t q card → Along its (begun x h e) es card 0
+    along : (card : Card) → (pages k ≡ false → (i : ℕ) → i < q .length → card (place m (q .offset .0 + i)) ≡ getD new i 0) → (es : List Event) → Served (begun x h e) es t q card → Along its (begun x h e) es card 0 × Issues x h e t q es
     along card reads es served =
-        walk its es (begun x h e) card 0 0 (opens x (after x h) (before x h e hosted .sound) (before x h e hosted .fixed) e (may x h e hosted) q k t g first last new long of-write card reads) served
+        let o = opens x (after x h) (before x h e hosted .sound) (before x h e hosted .fixed) e (may x h e hosted) q k t g first last new long of-write card reads in
+        let z = stands its es (begun x h e) card 0 0 o served in
+        (walk its es (begun x h e) card 0 0 o served, record { awaited = awaited its (begun x h e) es z; ends = ends its (begun x h e) es z; not-before = not-before its (begun x h e) es z })
 
 module _ (x : Start) (h : List Event) (e : Event) (t : ℕ) (q : Request) where
   abbrev s₁ : State
@@ -63,13 +66,15 @@ module _ (x : Start) (h : List Event) (e : Event) (t : ℕ) (q : Request) where
       let k = Page (startOf q) (endOf q) in
       let g = subst (λ (n : Made). tagGiven (done s₁ (e .lengths) n .1) ≡ some t → Begun s₁ q k t (done s₁ (e .lengths) n)) (sym (a .made-so)) (begun-write s₁ q t (e .lengths)) (a .tag) in
       let same = bufferThen x e q in
-      let z = along x h e t q (a .hosted) k g refl refl (take (q .length) same) (old-length x h e t q (a .hosted) k g) (λ page. refl) card (λ reads. absurd (not-both refl reads)) es served in
+      let both = along x h e t q (a .hosted) k g refl refl (take (q .length) same) (old-length x h e t q (a .hosted) k g) (λ page. refl) card (λ reads. absurd (not-both refl reads)) es served in
+      let z = both .0 in
       record {
         arrived = λ pieces i lt. z .arrived pieces i lt ∙ getD-take (q .length) same i 0 lt;
         completes = λ gone. let y = z .completed gone in
             y .only ∙ (λ j. (record { tag = y .finished .tag j; outcome = y .finished .wrote refl j; buf = y .finished .buf j }, take-append-drop (q .length) same j) ∷ []);
         no-flush = λ gone. z .completed gone .finished .policy refl;
         none-yet = z .none-yet;
+        issues = both .1;
       }
 
   read : Accepted x h e t q (calls (ReadPage q)) → (card : Card) (es : List Event) → Served (begun x h e) es t q card → DidRead x h e t q card es
@@ -78,12 +83,14 @@ module _ (x : Start) (h : List Event) (e : Event) (t : ℕ) (q : Request) where
       let k = Read (startOf q) (endOf q) in
       let g = subst (λ (n : Made). tagGiven (done s₁ (e .lengths) n .1) ≡ some t → Begun s₁ q k t (done s₁ (e .lengths) n)) (sym (a .made-so)) (begun-read s₁ q t (e .lengths)) (a .tag) in
       let m₁ = regionAt (after x h) (q .handle) .map in
-      let z = along x h e t q (a .hosted) k g refl refl (gathered card m₁ (q .offset .0) (q .length)) (gathered-length card m₁ (q .offset .0) (q .length)) (λ page. absurd (not-both page refl)) card
+      let both = along x h e t q (a .hosted) k g refl refl (gathered card m₁ (q .offset .0) (q .length)) (gathered-length card m₁ (q .offset .0) (q .length)) (λ page. absurd (not-both page refl)) card
       (λ reads i lt. sym (gathered-at card m₁ (q .offset .0) (q .length) i lt)) es served in
+      let z = both .0 in
       record {
         completes = λ gone. let y = z .completed gone in
             y .only ∙ (λ j. (record { tag = y .finished .tag j; outcome = y .finished .outcome refl j; buf = y .finished .buf j }, gathered card m₁ (q .offset .0) (q .length) ++ drop (q .length) (bufferThen x e q)) ∷ []);
         none-yet = z .none-yet;
+        issues = both .1;
       }
 
   kept : Accepted x h e t q (calls (Write q)) → (es : List Event) → Followed (begun x h e) es t → (c : Completion) (bytes : List ℕ) (more : List Completed) → getsIn x h e t q es ≡ (c, bytes) ∷ more

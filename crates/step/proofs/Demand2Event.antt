@@ -41,7 +41,7 @@ use Rattle.step.specs.Step.{rowAt, rowOf, isLive, names, bytesAt, raised
 use Rattle.step.specs.Sound.{Sound}
 use Rattle.step.specs.Laws.{Made, Made.calls, Made.looks, Event, leave, done, next, replyTo}
 use Rattle.step.specs.Lists.{brought, isAway, planAt, leftIn, Given, givenAs, givenBy, Completed, withBytes, addedBy, isBrought, takesWhole, wroteBy, tagIn, cardBy, HostMay}
-use Rattle.step.specs.Demand2.{WholeTo, TakenWhole, Undisturbed, countOf, countGiven, resultOf, resultGiven, durablyTo, writtenTo}
+use Rattle.step.specs.Demand2.{WholeTo, TakenWhole, Undisturbed, countOf, countGiven, resultOf, resultGiven, answersOf, answersIn, durablyTo, writtenTo}
 use Rattle.step.proofs.Picked.{by-pick}
 use Rattle.step.proofs.Away.{turned-away}
 use Rattle.step.proofs.AloneTags.{clash, live-in, names-live, names-generation, names-by}
@@ -57,7 +57,7 @@ use Rattle.step.proofs.ProjectionSet.{Changed, row-here, bytes-here}
 use Rattle.step.proofs.Demand2Others.{wrote-unless, pool-others, other-row, done-row}
 use Rattle.step.proofs.Demand2Bytes.{lying, lying-last, turned-on, turned-last, piece-written}
 use Rattle.step.proofs.Demand2Fate.{pages, Whole, Whole.next-piece, Whole.its-flush, Whole.completes, answer-whole}
-use Rattle.step.proofs.Demand2Task.{Task, mappedTo, splitOf, sizeOf, hostsOf, onCard, ItsTicket, Stage, Stage.piece, Stage.flush, InRow, Open, piece-ends, consecutive, piece-place, piece-size, loose-is, is-new}
+use Rattle.step.proofs.Demand2Task.{Task, mappedTo, splitOf, sizeOf, hostsOf, onCard, ItsTicket, Stage, Stage.piece, Stage.flush, InRow, Open, piece-ends, rest, rest-first, rest-none, consecutive, piece-place, piece-size, loose-is, is-new}
 
 -- ---- an event that is turned away, or not
 
@@ -133,14 +133,16 @@ pub record Finished (w : Task) (s : State) (flushes : ℕ) (result : Option Flus
 abbrev pub getsOf : State → Event → ℕ → ℕ → List Completed
 getsOf s e t b = pick (isBrought (brought t (e .made))) (withBytes (bytesAt (next s e) b) (addedBy s e)) []
 
--- what the event gives to the operation, with the flush count n last given before: another count is last given then, and no flush result
-abbrev Counts : ℕ → List Given → ℕ → Type 0
-Counts n now n′ = (gs : List Given) → (countGiven n (now ++ gs) ≡ countGiven n′ gs) × (resultGiven (now ++ gs) ≡ resultGiven gs)
+-- what the event gives to the operation behind d bytes, with the flush count n last given before: another count is last given then, and no flush result; and it stands
+-- behind as many pieces more as were answered
+abbrev Counts : Task → ℕ → ℕ → List Given → ℕ → ℕ → Type 0
+Counts w d n now d′ n′ =
+    (gs : List Given) → (countGiven n (now ++ gs) ≡ countGiven n′ gs) × (resultGiven (now ++ gs) ≡ resultGiven gs) × (drop (answersIn (now ++ gs)) (rest w d) ≡ drop (answersIn gs) (rest w d′))
 
-pub data Came (w : Task) (s : State) (card : Card) (n : ℕ) (e : Event) : Type 0 where
-  still : (d n′ : ℕ) → Open w (next s e) (cardBy s e card) d n′ → getsOf s e (w .tag) (w .request .buffer) ≡ [] → Counts n (givenBy s e (w .tag)) n′ → Came w s card n e
+pub data Came (w : Task) (s : State) (card : Card) (d n : ℕ) (e : Event) : Type 0 where
+  still : (d′ n′ : ℕ) → Open w (next s e) (cardBy s e card) d′ n′ → getsOf s e (w .tag) (w .request .buffer) ≡ [] → Counts w d n (givenBy s e (w .tag)) d′ n′ → Came w s card d n e
   over : names (rowAt (next s e) (rowOf (w .tag))) (w .tag) ≡ false → Arrived w (cardBy s e card) → (c : Completion) (g : Given) → givenBy s e (w .tag) ≡ g ∷ []
-      → Finished w (next s e) (countGiven n (g ∷ [])) (resultGiven (g ∷ [])) c → getsOf s e (w .tag) (w .request .buffer) ≡ (c, w .new ++ w .tail) ∷ [] → Came w s card n e
+      → Finished w (next s e) (countGiven n (g ∷ [])) (resultGiven (g ∷ [])) c → getsOf s e (w .tag) (w .request .buffer) ≡ (c, w .new ++ w .tail) ∷ [] → drop (answersIn (g ∷ [])) (rest w d) ≡ [] → Came w s card d n e
 
 stage-live : (w : Task) (d c : ℕ) (a : Awaits) → Stage w d c a → isLive a ≡ true
 unfolding isLive
@@ -231,8 +233,8 @@ module _ (w : Task) (s : State) (card : Card) (d given : ℕ) (o : Open w s card
       ∙ o .bytes
 
   -- nothing is given
-  nothing-given : (now : List Given) → now ≡ [] → Counts given now given
-  nothing-given now q gs = (ap (λ (l : List Given). countGiven given (l ++ gs)) q, ap (λ (l : List Given). resultGiven (l ++ gs)) q)
+  nothing-given : (now : List Given) → now ≡ [] → Counts w d given now d given
+  nothing-given now q gs = (ap (λ (l : List Given). countGiven given (l ++ gs)) q, ap (λ (l : List Given). resultGiven (l ++ gs)) q, ap (λ (l : List Given). drop (answersIn (l ++ gs)) (rest w d)) q)
 
   -- ---- the operation stays as it stands
 
@@ -285,7 +287,7 @@ module _ (w : Task) (s : State) (card : Card) (d given : ℕ) (o : Open w s card
     unfolding next rowAt leave
     other-kept = done-row left sound-left t (o .in-row .named) (e .lengths) (e .made) bt
 
-    pub came-other : Came w s card given e
+    pub came-other : Came w s card d given e
     unfolding isBrought pick givenBy givenAs
     came-other =
         still d given (stays other-kept other-bytes other-card) (ap (λ (v : Option Input). pick (isBrought v) (withBytes (bytesAt (next s e) b) (addedBy s e)) []) bt)
@@ -303,7 +305,7 @@ module _ (w : Task) (s : State) (card : Card) (d given : ℕ) (o : Open w s card
     unfolding withBytes addedBy
     gets-none q = gets-with [] (ap (drop (length (s .ready))) q ∙ drop-length (s .ready)) (bytesAt (next s e) b) refl
 
-    pub came-away : isAway (replyTo s e) ≡ true → Came w s card given e
+    pub came-away : isAway (replyTo s e) ≡ true → Came w s card d given e
     unfolding rowAt leave givenBy givenAs pick
     came-away gone =
         let same = away-same s e gone in
@@ -349,8 +351,8 @@ module _ (w : Task) (s : State) (card : Card) (d given : ℕ) (o : Open w s card
       fits g q = subst (FateFits left r) q (fate-fits left r i)
 
       -- it goes on
-      goes-on : (a : Awaits) (bytes : List ℕ) (d′ n′ : ℕ) → f ≡ awaits a bytes → Counts given ((i, leftIn left r) ∷ []) n′ → Stage w d′ n′ a → drop (hostsOf w d′) bytes ≡ drop (hostsOf w d′) (lies d′)
-          → ((j : ℕ) → j < onCard w d′ → cardBy s e card (mappedTo w j) ≡ getD (w .new) j 0) → Came w s card given e
+      goes-on : (a : Awaits) (bytes : List ℕ) (d′ n′ : ℕ) → f ≡ awaits a bytes → Counts w d given ((i, leftIn left r) ∷ []) d′ n′ → Stage w d′ n′ a → drop (hostsOf w d′) bytes ≡ drop (hostsOf w d′) (lies d′)
+          → ((j : ℕ) → j < onCard w d′ → cardBy s e card (mappedTo w j) ≡ getD (w .new) j 0) → Came w s card d given e
       unfolding settled going Fitting awaitsNow leave
       goes-on a bytes d′ n′ q counts stage held same =
           let z = next-is (awaits a bytes) q in
@@ -378,15 +380,15 @@ module _ (w : Task) (s : State) (card : Card) (d given : ℕ) (o : Open w s card
             card-is = same;
           })
           (gets-none (ap (λ (y : State). y .ready) z))
-          (subst (λ (l : List Given). Counts given l n′) (sym given-is) counts)
+          (subst (λ (l : List Given). Counts w d given l d′ n′) (sym given-is) counts)
 
       -- it completes
       ends-with : (x : Outcome) (n : ℕ) (bytes : List ℕ) → f ≡ ends x (Back (r .buffer) n) bytes none → n ≡ w .request .length → bytes ≡ w .new ++ w .tail
           → (pages (w .kind) ≡ false → x ≡ readTo (w .request .length)) → (pages (w .kind) ≡ true → x ≡ writtenTo (w .opening) (s .poison) (w .request .durable) (ticketOf (w .opening) (w .plan) (w .kind) (countGiven given ((i, leftIn left r) ∷ []))) (resultGiven ((i, leftIn left r) ∷ [])))
           → (pages (w .kind) ≡ true → w .request .durable ≡ true → resultGiven ((i, leftIn left r) ∷ []) ≡ none → w .opening .flush || regionAt s (w .request .handle) .forced ≡ false)
-          → Arrived w (cardBy s e card) → Came w s card given e
+          → Arrived w (cardBy s e card) → drop (answersIn ((i, leftIn left r) ∷ [])) (rest w d) ≡ [] → Came w s card d given e
       unfolding settled freeing Fitting completionOf withBytes addedBy names leave poisonWith regionAt
-      ends-with x n bytes q all new outcome wrote policy arrived =
+      ends-with x n bytes q all new outcome wrote policy arrived none-left =
           let to = settled left t r (ends x (Back (r .buffer) n) bytes none) .0 in
           let z = next-is (ends x (Back (r .buffer) n) bytes none) q in
           let gone = freed (raised (r .generation)) in
@@ -398,6 +400,7 @@ module _ (w : Task) (s : State) (card : Card) (d given : ℕ) (o : Open w s card
           over (ap (λ (y : Row). names y t) row ∙ freed-unnamed (raised (r .generation))) arrived c (i, leftIn left r) given-is
           (record { buf = (λ j. Back (o .in-row .buffer j) (all j)); tag = o .in-row .tag; outcome = outcome; wrote = λ page. wrote page ∙ (λ j. writtenTo (w .opening) (sym z j .poison) (w .request .durable) (ticketOf (w .opening) (w .plan) (w .kind) (countGiven given ((i, leftIn left r) ∷ []))) (resultGiven ((i, leftIn left r) ∷ []))); policy = λ page durable none. ap (λ (y : State). w .opening .flush || regionAt y (w .request .handle) .forced) z ∙ policy page durable none })
           (gets-with (c ∷ []) (ap (λ (y : State). drop (length (s .ready)) (y .ready)) z ∙ drop-append-seam (s .ready) (c ∷ [])) (w .new ++ w .tail) (there ∙ new))
+          none-left
         where
           freed-unnamed : (g : ℕ) → names (freed g) t ≡ false
           freed-unnamed g = unfold freed isLive in refl
@@ -435,9 +438,10 @@ module _ (w : Task) (s : State) (card : Card) (d given : ℕ) (o : Open w s card
             (answer-whole (s .settings) g forced (s .poison) r (splitOf w d) now (w .kind) x back flushes more (is-whole .0) (is-whole .1)))))
 
         -- what is given is this answer
-        one-count : Counts given ((i, leftIn left r) ∷ []) flushes
-        unfolding countGiven countOf resultGiven resultOf
-        one-count gs = (ap (λ (v : Input). countGiven (countOf v given) gs) is, ap (λ (v : Input). resultOf v (resultGiven gs)) is)
+        one-count : Counts w d given ((i, leftIn left r) ∷ []) (d + n) flushes
+        unfolding countGiven countOf resultGiven resultOf answersIn answersOf
+        one-count gs =
+            (ap (λ (v : Input). countGiven (countOf v given) gs) is, ap (λ (v : Input). resultOf v (resultGiven gs)) is, (λ j. drop (answersOf (is j) (answersIn gs)) (rest-first w d more j)))
 
         one-last : countGiven given ((i, leftIn left r) ∷ []) ≡ flushes
         unfolding countGiven countOf
@@ -468,13 +472,13 @@ module _ (w : Task) (s : State) (card : Card) (d given : ℕ) (o : Open w s card
                 ap (λ (after : Card). after (mappedTo w j)) (came-to ∙ wrote-read (planAt s r) (w .kind) (splitOf w d) (bytesAt left b) (some (answered x back flushes)) card reads)
                 ∙ o .card-is j (rw reads (rw reads at lt))
 
-        came-whole : Whole (w .opening) (w .plan) (regionAt s (w .request .handle) .forced) (s .poison) flushes r (w .kind) (splitOf w d) n bytes f → Came w s card given e
+        came-whole : Whole (w .opening) (w .plan) (regionAt s (w .request .handle) .forced) (s .poison) flushes r (w .kind) (splitOf w d) n bytes f → Came w s card d given e
         unfolding splitAfter pick
         came-whole (next-piece lt q) =
             goes-on _ _ (d + n) flushes q one-count (piece refl lt)
             (ap (drop (hostsOf w (d + n))) (turned-on (w .new) (w .old) (w .tail) (w .request .length) (w .long-new) (w .long-old) d n (piece-ends w d more) bytes (new-is .0) (new-is .1))) card-after
         came-whole (its-flush page durable all q) =
-            goes-on _ _ (w .request .length) flushes q one-count (flush _ refl page refl (its-ticket w flushes (sym (o .in-row .durable page) ∙ durable)))
+            goes-on _ _ (w .request .length) flushes q (subst (λ (m : ℕ). Counts w d given ((i, leftIn left r) ∷ []) m flushes) all one-count) (flush _ refl page refl (its-ticket w flushes (sym (o .in-row .durable page) ∙ durable)))
             (ap (drop (hostsOf w (w .request .length)))
             (turned-last (w .new) (w .old) (w .tail) (w .request .length) (w .long-new) (w .long-old) d n (piece-ends w d more) bytes (new-is .0) (new-is .1) all
             ∙ sym (lying-last (w .new) (w .old) (w .tail) (w .request .length) (w .long-new) (w .long-old))))
@@ -484,16 +488,16 @@ module _ (w : Task) (s : State) (card : Card) (d given : ℕ) (o : Open w s card
             (turned-last (w .new) (w .old) (w .tail) (w .request .length) (w .long-new) (w .long-old) d n (piece-ends w d more) bytes (new-is .0) (new-is .1) all) outcome
             (λ page. wrote page .outcome ∙ (λ j. writtenTo (w .opening) (s .poison) (o .in-row .durable page j) (ticketOf (w .opening) (w .plan) (w .kind) (sym one-last j)) (sym one-result j)))
             (λ page durable z. wrote page .policy (o .in-row .durable page ∙ durable))
-            (λ j lt. card-after j (on-card-all w (d + n) j all lt))
+            (λ j lt. card-after j (on-card-all w (d + n) j all lt)) (unfold answersIn in one-count [] .2 ∙ rest-none w (d + n) all)
 
-        came-piece : Came w s card given e
+        came-piece : Came w s card d given e
         came-piece = came-whole its-whole
 
       -- ---- a flush result
 
       module _ (tk : WriteTicket) (at : r .awaits ≡ Flush tk) (page : pages (w .kind) ≡ true) (all : d ≡ w .request .length) (its : ItsTicket w given tk) (result : Flushed) (is : i ≡ flushed result) where
-        came-flush : Came w s card given e
-        unfolding fateOf rules flushRules flushEnds wroteBy pick leave countGiven countOf resultGiven resultOf durablyTo writtenTo
+        came-flush : Came w s card d given e
+        unfolding fateOf rules flushRules flushEnds wroteBy pick leave countGiven countOf resultGiven resultOf answersIn answersOf durablyTo writtenTo
         came-flush =
             let held : bytesAt left b ≡ lies d = rw page at bytes-left in
             ends-with (flushOutcome (left .settings) tk result) (tk .end .0 - tk .start .0) (bytesAt left (r .buffer))
@@ -506,8 +510,9 @@ module _ (w : Task) (s : State) (card : Card) (d given : ℕ) (o : Open w s card
             (λ writes durable z. clash (let y : some result ≡ none = sym (ap (λ (v : Input). resultOf v none) is) ∙ z in cc))
             (λ j lt. ap (λ (after : Card). after (mappedTo w j)) (card-own ∙ ap (λ (a : Awaits). wroteBy (planAt s r) a (bytesAt left (r .buffer)) (some i) card) at)
             ∙ o .card-is j (on-card-all w d j all lt))
+            ((λ j. drop (answersOf (is j) 0) (rest w d)) ∙ rest-none w d all)
 
-      came-heard : Stage w d given (r .awaits) → (v : Input) → i ≡ v → Came w s card given e
+      came-heard : Stage w d given (r .awaits) → (v : Input) → i ≡ v → Came w s card d given e
       unfolding fateOf rules answerRules flushRules
       came-heard (piece at more) (answered x back flushes) is = came-piece at more x back flushes is
       came-heard (piece at more) (flushed result) is = absurd (not-away NotAwaited (ap (fateOf left r) is ∙ ap (flushRules (left .settings) r (bytesAt left (r .buffer)) result) at))
@@ -515,13 +520,13 @@ module _ (w : Task) (s : State) (card : Card) (d given : ℕ) (o : Open w s card
           absurd (not-away NotAwaited (ap (fateOf left r) is ∙ ap (answerRules (left .settings) (planOf (regionAt left (r .handle))) (regionAt left (r .handle) .forced) (left .poison) r (bytesAt left (r .buffer)) x back flushes) at))
       came-heard (flush tk at page all long) (flushed result) is = came-flush tk at page all long result is
 
-    came-own : (b : Bool) → isAway (replyTo s e) ≡ b → Came w s card given e
+    came-own : (b : Bool) → isAway (replyTo s e) ≡ b → Came w s card d given e
     came-own true gone = came-away gone
     came-own false heard = came-heard heard (o .in-row .stage) i refl
 
-  pub came : Came w s card given e
+  pub came : Came w s card d given e
   came = by-brought (brought t (e .made)) refl
     where
-      by-brought : (v : Option Input) → brought t (e .made) ≡ v → Came w s card given e
+      by-brought : (v : Option Input) → brought t (e .made) ≡ v → Came w s card d given e
       by-brought none q = came-other q
       by-brought (some i) q = came-own i q (isAway (replyTo s e)) refl

@@ -3,13 +3,14 @@
 -- on the card, and of a read the card's bytes are the new ones.
 use mathlib.Core.Path.{_≡_, refl, sym, ap, _∙_, subst}
 use mathlib.Core.Bool.{Bool, true, false}
-use mathlib.Core.List.{List}
+use mathlib.Core.List.{List, [], _∷_}
 use Prim.Native.Nat.{ℕ, _+_, _-_, _≤_, _<_}
 use native.Mathlib.Nat.{add-assoc}
 use native.Mathlib.Omega.{arith}
 use lib.ListN.{length, take, drop, getD}
 use Rattle.layout.specs.Pick.{pick}
-use Rattle.regionmap.specs.Map.{Map, place, pieceSize}
+use Rattle.regionmap.specs.Map.{Map, place, pieceSize, pieces}
+use Rattle.regionmap.specs.Map.{Piece as MapPiece}
 use Rattle.regionmap.specs.Laws.{Lawful, OnePiece}
 use Rattle.regionmap.proofs.Laws.{map-laws}
 use Rattle.posix.specs.Posix.{Card, pread}
@@ -30,6 +31,7 @@ use Rattle.step.specs.Step.{rowAt, rowOf, names, bytesAt, planOf}
 use Rattle.step.specs.Sound.{Sound}
 use Rattle.step.specs.Lists.{loose, planAt, leftIn}
 use Rattle.step.specs.Demand2.{HoldsCard}
+use Rattle.step.proofs.Demand2Pieces.{first-piece, no-piece}
 use Rattle.step.proofs.Demand2Bytes.{lying, lying-front, piece-read}
 use Rattle.step.proofs.Demand2Fate.{pages}
 
@@ -66,6 +68,10 @@ splitOf w d = record { total = w .request .length; done = d }
 
 abbrev pub sizeOf : Task → ℕ → ℕ
 sizeOf w d = pieceSize (w .map) (w .request .offset .0 + d) (w .request .length - d)
+
+-- the map's pieces behind d bytes
+abbrev pub rest : Task → ℕ → List MapPiece
+rest w d = pieces (w .map) (w .request .offset .0 + d) (w .request .length - d)
 
 -- how many bytes at the front of its buffer are the host's
 abbrev pub hostsOf : Task → ℕ → ℕ
@@ -117,6 +123,18 @@ module _ (w : Task) (d : ℕ) (left : d < w .request .length) where
 
   pub consecutive : (j : ℕ) → j < sizeOf w d → mappedTo w (d + j) ≡ mappedTo w d + j
   consecutive j lt = ap (place (w .map)) (sym (add-assoc (w .request .offset .0) d j)) ∙ one-piece .consecutive j lt
+
+  -- the piece there is the first of those behind d bytes
+  pub rest-first : rest w d ≡ record { position = w .request .offset .0 + d; count = sizeOf w d } ∷ rest w (d + sizeOf w d)
+  rest-first =
+      let next : w .request .offset .0 + d + sizeOf w d ≡ w .request .offset .0 + (d + sizeOf w d) = omega arith in
+      let less : w .request .length - d - sizeOf w d ≡ w .request .length - (d + sizeOf w d) = omega arith in
+      first-piece (w .map) (w .lawful) (w .request .offset .0 + d) (w .request .length - d) (omega arith) (let z = w .in-data in omega (arith, z, left))
+      ∙ (λ j. record { position = w .request .offset .0 + d; count = sizeOf w d } ∷ pieces (w .map) (next j) (less j))
+
+-- behind all bytes there is none
+pub rest-none : (w : Task) (d : ℕ) → d ≡ w .request .length → rest w d ≡ []
+rest-none w d all = no-piece (w .map) (w .request .offset .0 + d) (w .request .length - d) (omega (arith, all))
 
 module _ (w : Task) (s : State) (r : Row) (handle : r .handle ≡ w .request .handle) (map-is : regionAt s (w .request .handle) .map ≡ w .map) where
   pub plan-map : planAt s r .map ≡ w .map

@@ -62,7 +62,7 @@ module _ (w : Task) where
   walk (e ∷ es) s card d n o served =
       by-came (λ d′ n′ o′. walk es (next s e) (cardBy s e card) d′ n′ o′ (served .4)) (came w s card d n o e (served .1) (served .2) (served .3))
     where
-      by-came : ((d′ n′ : ℕ) → Open w (next s e) (cardBy s e card) d′ n′ → Along w (next s e) es (cardBy s e card) n′) → Came w s card n e → Along w s (e ∷ es) card n
+      by-came : ((d′ n′ : ℕ) → Open w (next s e) (cardBy s e card) d′ n′ → Along w (next s e) es (cardBy s e card) n′) → Came w s card d n e → Along w s (e ∷ es) card n
       by-came on (still d′ n′ o′ none counts) =
           let behind = on d′ n′ o′ in
           let later = given (next s e) es (w .tag) in
@@ -75,4 +75,4 @@ module _ (w : Task) where
             };
             none-yet = λ here. ap (λ (l : List Completed). l ++ gets (next s e) es (w .tag) (w .request .buffer)) none ∙ behind .none-yet here;
           }
-      by-came on (over dead arrived c g q finished got) = ended s card n e es dead (served .4) arrived c g q finished got
+      by-came on (over dead arrived c g q finished got none-left) = ended s card n e es dead (served .4) arrived c g q finished got

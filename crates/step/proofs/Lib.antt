@@ -49,9 +49,11 @@ pub mod Demand3
 pub mod Demand2Others
 pub mod Demand2Bytes
 pub mod Demand2Fate
+pub mod Demand2Pieces
 pub mod Demand2Task
 pub mod Demand2Event
 pub mod Demand2Kept
 pub mod Demand2Walk
+pub mod Demand2Ends
 pub mod Demand2Begun
 pub mod Demand2

@@ -6,10 +6,10 @@ use mathlib.Core.Logic.{_≢_}
 use mathlib.Core.Bool.{Bool, true, false, _||_}
 use mathlib.Core.Option.{Option, none, some}
 use mathlib.Core.List.{List, [], _∷_, _++_}
-use Prim.Native.Nat.{ℕ, _+_, _≤_, _<_}
-use lib.ListN.{getD, drop}
+use Prim.Native.Nat.{ℕ, suc, _+_, _-_, _≤_, _<_}
+use lib.ListN.{length, getD, drop}
 use Rattle.layout.specs.Pick.{pick}
-use Rattle.regionmap.specs.Map.{place}
+use Rattle.regionmap.specs.Map.{Map, place, pieces}
 use Rattle.iobuf.specs.Turn.{stretch}
 use Rattle.posix.specs.Posix.{Card, pread}
 use Rattle.transfer.specs.Transfer.{gathered}
@@ -21,7 +21,9 @@ use Rattle.completion.specs.declared.Outcome.the-variants.{Written, Receipt, Re
 use Rattle.completion.specs.declared.Buffer.the-variants.{Back}
 use Rattle.completion.specs.declared.Completion.{Completion}
 use Rattle.model.specs.declared.Opening.{Opening}
+use Rattle.model.specs.declared.Kind.{Kind}
 use Rattle.model.specs.declared.Kind.the-variants.{Page, Read}
+use Rattle.model.specs.declared.Split.{Split}
 use Rattle.model.specs.declared.Awaits.{Awaits}
 use Rattle.model.specs.declared.Awaits.the-variants.{Nothing, Piece, Flush}
 use Rattle.model.specs.declared.Row.{Row}
@@ -29,7 +31,7 @@ use Rattle.model.specs.declared.Request.{Request}
 use Rattle.model.specs.declared.Call.the-variants.{Write, ReadPage}
 use Rattle.model.specs.State.{State}
 use Rattle.step.specs.Questions.{regionAt}
-use Rattle.step.specs.Rules.{pieceLength, isWhole, Input, Input.answered, Input.flushed, ticketOf, unflushed, flushOutcome}
+use Rattle.step.specs.Rules.{firstOf, pieceLength, isWhole, Input, Input.answered, Input.flushed, ticketOf, unflushed, flushOutcome}
 use Rattle.step.specs.Step.{startOf, endOf, rowOf, rowAt, bytesAt, planOf, names, writesIn}
 use Rattle.step.specs.Sound.{Sound}
 use Rattle.step.specs.Laws.{Made, Made.calls, Event, leave, next, run, replyTo}
@@ -121,6 +123,15 @@ unfoldable pub resultGiven : List Given → Option Flushed
 resultGiven [] = none
 resultGiven (g ∷ gs) = resultOf (g .0) (resultGiven gs)
 
+-- how many answers were given
+unfoldable pub answersOf : Input → ℕ → ℕ
+answersOf (answered a back flushes) n = suc n
+answersOf (flushed result) n = n
+
+unfoldable pub answersIn : List Given → ℕ
+answersIn [] = 0
+answersIn (g ∷ gs) = answersOf (g .0) (answersIn gs)
+
 -- what a write comes to whose pieces were all taken whole, with the ticket of its own range: "Plain ends there." "Durable without either ends Poisoned if the
 -- store is poisoned, else with a receipt of need 2^64 − 1." "A flush result completes the row".
 unfoldable pub durablyTo : Opening → Poisoned → WriteTicket → Option Flushed → Outcome
@@ -140,6 +151,21 @@ givenTo x h e t es = given (begun x h e) es t
 
 abbrev pub getsIn : Start → List Event → Event → ℕ → Request → List Event → List Completed
 getsIn x h e t q es = gets (begun x h e) es t (q .buffer)
+
+-- the piece awaited after so many answers is of the request's range, and the first of the map's pieces behind as many: those are the pieces of the bytes left
+pub record ToCome (m : Map) (q : Request) (answers : ℕ) (k : Kind) (sp : Split) : Type 0 where
+  pub start : firstOf k ≡ q .offset
+  pub total : sp .total ≡ q .length
+  pub behind : drop answers (pieces m (q .offset .0) (q .length)) ≡ pieces m (q .offset .0 + sp .done) (sp .total - sp .done)
+
+-- which pieces are issued, and how many: ".. and one that issues nothing fail demand 2. One that issues the first piece and then reports the whole fails 2 and 3."
+pub record Issues (x : Start) (h : List Event) (e : Event) (t : ℕ) (q : Request) (es : List Event) : Type 0 where
+  pub awaited : (k : Kind) (sp : Split) → names (rowAt (run (begun x h e) es) (rowOf t)) t ≡ true → rowAt (run (begun x h e) es) (rowOf t) .awaits ≡ Piece k sp
+      → ToCome (regionAt (after x h) (q .handle) .map) q (answersIn (givenTo x h e t es)) k sp
+  -- they come to an end: given as many answers as the map has pieces for its range, the operation is done with them
+  pub ends : length (pieces (regionAt (after x h) (q .handle) .map) (q .offset .0) (q .length)) ≤ answersIn (givenTo x h e t es) → PiecesDone (run (begun x h e) es) t
+  -- and not before
+  pub not-before : PiecesDone (run (begun x h e) es) t → length (pieces (regionAt (after x h) (q .handle) .map) (q .offset .0) (q .length)) ≤ answersIn (givenTo x h e t es)
 
 pub record Wrote (x : Start) (h : List Event) (e : Event) (t : ℕ) (q : Request) (card : Card) (es : List Event) : Type 0 where
   -- once its pieces are done every byte has arrived at its mapped card offset
@@ -164,6 +190,7 @@ pub record Wrote (x : Start) (h : List Event) (e : Event) (t : ℕ) (q : Request
       → x .opening .flush || regionAt (run (begun x h e) es) (q .handle) .forced ≡ false
   -- and before, none
   pub none-yet : names (rowAt (run (begun x h e) es) (rowOf t)) t ≡ true → getsIn x h e t q es ≡ []
+  pub issues : Issues x h e t q es
 
 pub record DidRead (x : Start) (h : List Event) (e : Event) (t : ℕ) (q : Request) (card : Card) (es : List Event) : Type 0 where
   -- the card's bytes of the whole range, and behind them the buffer's own
@@ -172,6 +199,7 @@ pub record DidRead (x : Start) (h : List Event) (e : Event) (t : ℕ) (q : Reque
       ≡ (record { tag = q .tag; outcome = readTo (q .length); buf = Back (q .buffer) (q .length) }, gathered card (regionAt (after x h) (q .handle) .map) (q .offset .0) (q .length) ++ drop (q .length) (bufferThen x e q))
       ∷ []
   pub none-yet : names (rowAt (run (begun x h e) es) (rowOf t)) t ≡ true → getsIn x h e t q es ≡ []
+  pub issues : Issues x h e t q es
 
 -- ---- the converse, whatever the card answers
 
