@@ -44,12 +44,12 @@ use Rattle.demandexamples.proofs.Quiet.{quiet, quietly, may}
 unfoldable ServedAll : State → List Made → ℕ → Request → Card → Type 0
 ServedAll s [] t q card = Unit {0}
 ServedAll s (m ∷ ms) t q card =
-    (names (rowAt s (rowOf t)) t ≡ true) × TakenWhole s (quiet s m) t card × ((r : ℕ) → r ≢ rowOf t → writesIn (rowAt s r .awaits) ≡ false) × ServedAll (next s (quiet s m)) ms t q (cardBy s (quiet s m) card)
+    (names (rowAt s (rowOf t)) t ≡ true) × TakenWhole s (quiet s m) t card × Undisturbed s (quiet s m) t q card × ServedAll (next s (quiet s m)) ms t q (cardBy s (quiet s m) card)
 
 quiet-served : (s : State) (ms : List Made) (t : ℕ) (q : Request) (card : Card) → ServedAll s ms t q card → Served s (quietly s ms) t q card
-unfolding Served quietly ServedAll Undisturbed
+unfolding Served quietly ServedAll
 quiet-served s [] t q card f = tt
-quiet-served s (m ∷ ms) t q card f = (f .0, may s, f .1, λ r y i n w mapped lt at. not-both w (f .2 r n), quiet-served (next s (quiet s m)) ms t q (cardBy s (quiet s m) card) (f .3))
+quiet-served s (m ∷ ms) t q card f = (f .0, may s, f .1, f .2, quiet-served (next s (quiet s m)) ms t q (cardBy s (quiet s m) card) (f .3))
 
 -- an input that is taken whole, one that is turned away, and none at all
 taken-input : (s : State) (m : Made) (t : ℕ) (card : Card) (i : Input) → brought t m ≡ some i → WholeTo s (rowAt s (rowOf t)) (rowAt s (rowOf t) .awaits) i
@@ -64,6 +64,15 @@ taken-away s m t card gone j q heard = absurd (not-both gone heard)
 taken-none : (s : State) (m : Made) (t : ℕ) (card : Card) → brought t m ≡ none → TakenWhole s (quiet s m) t card
 unfolding TakenWhole
 taken-none s m t card e j q heard = clash (let z = sym e ∙ q in cc)
+
+-- the card is as it was, or the input is the operation's own
+card-stays : (s : State) (m : Made) (t : ℕ) (q : Request) (card : Card) → cardBy s (quiet s m) card ≡ card → Undisturbed s (quiet s m) t q card
+unfolding Undisturbed
+card-stays s m t q card e none-brought i lt = ap (λ (after : Card). after _) e
+
+its-own : (s : State) (m : Made) (t : ℕ) (q : Request) (card : Card) (i : Input) → brought t m ≡ some i → Undisturbed s (quiet s m) t q card
+unfolding Undisturbed
+its-own s m t q card i e none-brought j lt = clash (let z = sym e ∙ none-brought in cc)
 
 -- ---- the example
 
@@ -92,12 +101,6 @@ between = looks MarkNow ∷ calls (ReadPage (asked 1 1536 512)) ∷ whole 0 ∷ 
 abbrev blank : Card
 blank z = 0
 
--- no other row has a write
-others : (P : ℕ → Type 0) → P 1 → ((r : ℕ) → P (suc (suc r))) → (r : ℕ) → r ≢ 0 → P r
-others P b c zero n = absurd (n refl)
-others P b c (suc zero) n = b
-others P b c (suc (suc r)) n = c r
-
 record Computed : Type 0 where
   writes : tagGiven (replyTo (openedBy start) (submits (calls (Write its)))) ≡ some 0
   reads : tagGiven (replyTo (openedBy start) (submits (calls (ReadPage its)))) ≡ some 0
@@ -122,24 +125,24 @@ computed = record {
   write-served = (
     refl,
     taken-none _ _ 0 _ refl,
-    others _ refl (λ r. refl),
+    card-stays _ _ 0 _ _ refl,
     (
       refl,
       taken-none _ _ 0 _ refl,
-      others _ refl (λ r. refl),
+      card-stays _ _ 0 _ _ refl,
       (
         refl,
         taken-input _ _ 0 _ (answered (Count 512) true 0) refl (refl, refl) tt,
-        others _ refl (λ r. refl),
+        its-own _ _ 0 _ _ (answered (Count 512) true 0) refl,
         (
           refl,
           taken-away _ _ 0 _ refl,
-          others _ refl (λ r. refl),
+          card-stays _ _ 0 _ _ refl,
           (
             refl,
             taken-none _ _ 0 _ refl,
-            others _ refl (λ r. refl),
-            (refl, taken-away _ _ 0 _ refl, others _ refl (λ r. refl), (refl, taken-input _ _ 0 _ (answered (Count 512) true 0) refl (refl, refl) tt, others _ refl (λ r. refl), tt)),
+            card-stays _ _ 0 _ _ refl,
+            (refl, taken-away _ _ 0 _ refl, card-stays _ _ 0 _ _ refl, (refl, taken-input _ _ 0 _ (answered (Count 512) true 0) refl (refl, refl) tt, its-own _ _ 0 _ _ (answered (Count 512) true 0) refl, tt)),
           ),
         ),
       ),
@@ -148,24 +151,24 @@ computed = record {
   read-served = (
     refl,
     taken-none _ _ 0 _ refl,
-    others _ refl (λ r. refl),
+    card-stays _ _ 0 _ _ refl,
     (
       refl,
       taken-none _ _ 0 _ refl,
-      others _ refl (λ r. refl),
+      card-stays _ _ 0 _ _ refl,
       (
         refl,
         taken-input _ _ 0 _ (answered (Count 512) true 0) refl (refl, refl) refl,
-        others _ refl (λ r. refl),
+        its-own _ _ 0 _ _ (answered (Count 512) true 0) refl,
         (
           refl,
           taken-away _ _ 0 _ refl,
-          others _ refl (λ r. refl),
+          card-stays _ _ 0 _ _ refl,
           (
             refl,
             taken-none _ _ 0 _ refl,
-            others _ refl (λ r. refl),
-            (refl, taken-away _ _ 0 _ refl, others _ refl (λ r. refl), (refl, taken-input _ _ 0 _ (answered (Count 512) true 0) refl (refl, refl) refl, others _ refl (λ r. refl), tt)),
+            card-stays _ _ 0 _ _ refl,
+            (refl, taken-away _ _ 0 _ refl, card-stays _ _ 0 _ _ refl, (refl, taken-input _ _ 0 _ (answered (Count 512) true 0) refl (refl, refl) refl, its-own _ _ 0 _ _ (answered (Count 512) true 0) refl, tt)),
           ),
         ),
       ),

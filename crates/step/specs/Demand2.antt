@@ -70,15 +70,17 @@ pub record ToWrite (s : State) (r : Row) (y : ℕ) : Type 0 where
   pub mapped : Mapped s r y
   pub behind : doneOf (r .awaits) ≤ mapped .i
 
--- "no other operation writing its bytes meanwhile": no other open write is still to write a byte of the request's range
-unfoldable pub Undisturbed : State → ℕ → Request → Type 0
-Undisturbed s t q = (r y i : ℕ) → r ≢ rowOf t → writesIn (rowAt s r .awaits) ≡ true → ToWrite s (rowAt s r) y → i < q .length → place (regionAt s (q .handle) .map) (q .offset .0 + i) ≡ y → ⊥
+-- "no other operation writing its bytes meanwhile": an event that brings the operation under the queue tag t nothing leaves the card bytes of the request's range (by
+-- card-others below, an answer writes only what its own operation is still to write)
+unfoldable pub Undisturbed : State → Event → ℕ → Request → Card → Type 0
+Undisturbed s e t q card =
+    brought t (e .made) ≡ none → (i : ℕ) → i < q .length → cardBy s e card (place (regionAt s (q .handle) .map) (q .offset .0 + i)) ≡ card (place (regionAt s (q .handle) .map) (q .offset .0 + i))
 
 -- a list of events, whatever their calls, through which the operation under the queue tag t is served so, until it ends; the card changes as the table's
 -- pieces say
 unfoldable pub Served : State → List Event → ℕ → Request → Card → Type 0
 Served s [] t q card = Unit {0}
-Served s (e ∷ es) t q card = (names (rowAt s (rowOf t)) t ≡ true) × HostMay s (e .leaves) × TakenWhole s e t card × Undisturbed s t q × Served (next s e) es t q (cardBy s e card)
+Served s (e ∷ es) t q card = (names (rowAt s (rowOf t)) t ≡ true) × HostMay s (e .leaves) × TakenWhole s e t card × Undisturbed s e t q card × Served (next s e) es t q (cardBy s e card)
 
 -- ---- the claim
 
