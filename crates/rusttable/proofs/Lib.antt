@@ -20,4 +20,7 @@ pub mod Writing
 pub mod Reading
 pub mod Leaving
 pub mod AsStep
+pub mod LaterPieces
+pub mod Refusing
+pub mod Histories
 pub mod Example

@@ -2,3 +2,4 @@ pub mod Table
 pub mod Functions
 pub mod Domain
 pub mod AsStep
+pub mod Histories

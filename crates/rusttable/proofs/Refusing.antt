@@ -1,0 +1,151 @@
+-- A submission with the queue's verdict on its first piece: by the event behind it, which in the domain of the comparison refuses just that piece, or none.
+use mathlib.Core.Path.{_≡_, refl, sym, ap, _∙_, subst}
+use mathlib.Core.Bool.{Bool, true, false, _&&_}
+use mathlib.Core.List.{List, [], _∷_}
+use mathlib.Core.Option.{Option, none, some}
+use Prim.Native.Nat.{ℕ}
+use borrow.Author.Tests.{eqb-true}
+use Rattle.layout.specs.Pick.{pick}
+use Rattle.layout.proofs.Tests.{not-both}
+use Rattle.regionmap.specs.declared.Offset.{Offset}
+use Rattle.platform.specs.declared.Answer.{Answer}
+use Rattle.platform.specs.declared.Answer.the-variants.{Count, Error as Failed, Refused, RefusedWith}
+use Rattle.completion.specs.declared.Reply.{Reply}
+use Rattle.completion.specs.declared.Reply.the-variants.{Piece as piece, No as turnedAway, Rejected, Done, Flush as flushAsked, Took, None as noneReady, Ok as isOk, Writes, Mark}
+use Rattle.completion.specs.declared.Refusal.the-variants.{Unfit}
+use Rattle.completion.specs.Numbers.{number}
+use Rattle.model.specs.declared.Lengths.{Lengths}
+use Rattle.model.specs.declared.Call.{Call}
+use Rattle.model.specs.declared.Call.the-variants.{Write, ReadPage, Answer as Answers, Flushed as FlushedCall, Take, SetGate, SetReadOnly, SetForced, ReportPoison}
+use Rattle.model.specs.State.{State}
+use Rattle.step.specs.Rules.{isRefusal}
+use Rattle.step.specs.Step.{eqLengths, called, step}
+use Rattle.step.specs.Laws.{Made, Made.calls, Made.looks, Event, leave, done, next, replyTo}
+use Rattle.step.proofs.AloneTags.{clash}
+use Rattle.step.proofs.Histories.{done-stays}
+use Rattle.rusttable.specs.Table.{Result, Result.Ok, Result.Err, IoBuf, RawError, RawResult, Submitter, Submitted, Submitted.Taken, Submitted.Refused as QueueRefuses, Issued}
+use Rattle.rusttable.specs.Functions.{isSome}
+use Rattle.rusttable.specs.Domain.{compared, issues, isTag, atOnce, InDomain}
+use Rattle.rusttable.specs.AsStep.{answerOf, refusalOf, Submits}
+use Rattle.rusttable.specs.Histories.{asRust, refusal, refusedBy, refusesFirst, verdictAs, verdict, comesTo, MadeIn, HistoryIn}
+use Rattle.rusttable.proofs.Within.{called-step}
+
+-- ---- what is read back
+
+pub answer-is : (a : Answer) (result : RawResult) → asRust a ≡ Ok result → a ≡ answerOf result
+unfolding asRust answerOf
+answer-is (Count n) (Ok m) q = cc
+answer-is (Count n) (Err e) q = clash (cc)
+answer-is (Failed x media) (Ok m) q = clash (cc)
+answer-is (Failed x media) (Err e) q = let z : record { raw = x; media = media } ≡ e = cc in (λ j. Failed (z j .raw) (z j .media))
+answer-is Refused result q = clash (cc)
+answer-is (RefusedWith x media) result q = clash (cc)
+
+pub refusal-is : (a : Answer) (raw : Option RawError) → asRust a ≡ Err raw → a ≡ refusalOf raw
+unfolding asRust refusalOf
+refusal-is (Count n) raw q = clash (cc)
+refusal-is (Failed x media) raw q = clash (cc)
+refusal-is Refused none q = refl
+refusal-is Refused (some e) q = clash (cc)
+refusal-is (RefusedWith x media) none q = clash (cc)
+refusal-is (RefusedWith x media) (some e) q = let z : record { raw = x; media = media } ≡ e = cc in (λ j. RefusedWith (z j .raw) (z j .media))
+
+-- an event that refuses a piece
+pub record Refuses (m : Made) (raw : Option RawError) (back : Bool) : Type 0 where
+  pub t : ℕ
+  pub flushes : ℕ
+  pub is : m ≡ calls (Answers t (refusalOf raw) back flushes)
+
+refuses : (m : Made) (raw : Option RawError) (back : Bool) → refusedBy m ≡ some (raw, back) → Refuses m raw back
+unfolding refusedBy refusal
+refuses (calls (Write q)) raw back e = clash (cc)
+refuses (calls (ReadPage q)) raw back e = clash (cc)
+refuses (calls (Answers t a was flushes)) raw back e = by-answer (asRust a) refl e
+  where
+    by-answer : (r : Result RawResult (Option RawError)) → asRust a ≡ r → refusal r was ≡ some (raw, back) → Refuses (calls (Answers t a was flushes)) raw back
+    by-answer (Ok result) q z = clash (cc)
+    by-answer (Err found) q z =
+        let both : _≡_ {A = Option RawError × Bool} (found, was) (raw, back) = cc in
+        record { t = t; flushes = flushes; is = (λ j. calls (Answers t ((refusal-is a found q ∙ ap (λ (y : Option RawError × Bool). refusalOf (y .0)) both) j) (both j .1) flushes)) }
+refuses (calls (FlushedCall t result)) raw back e = clash (cc)
+refuses (calls Take) raw back e = clash (cc)
+refuses (calls (SetGate h x)) raw back e = clash (cc)
+refuses (calls (SetReadOnly h x)) raw back e = clash (cc)
+refuses (calls (SetForced h x)) raw back e = clash (cc)
+refuses (calls (ReportPoison cause)) raw back e = clash (cc)
+refuses (looks x) raw back e = clash (cc)
+
+-- a refusal in the domain is of the piece that the reply before issued
+pub tag-issued : (before : Option ℕ) (t : ℕ) (raw : Option RawError) (back : Bool) (flushes : ℕ) → atOnce before (Answers t (refusalOf raw) back flushes) ≡ true → before ≡ some t
+unfolding atOnce isRefusal refusalOf isTag pick
+tag-issued none t none back flushes e = absurd (not-both e refl)
+tag-issued none t (some x) back flushes e = absurd (not-both e refl)
+tag-issued (some u) t none back flushes e = ap some (eqb-true u t e)
+tag-issued (some u) t (some x) back flushes e = ap some (eqb-true u t e)
+
+record IsPiece (x : Reply) (t : ℕ) : Type 0 where
+  offset : Offset
+  count : ℕ
+  b : ℕ
+  is : x ≡ piece t offset count b
+
+is-piece : (x : Reply) (t : ℕ) → issues x ≡ some t → IsPiece x t
+unfolding issues
+is-piece (piece u offset count b) t e = let same : u ≡ t = cc in record { offset = offset; count = count; b = b; is = ap (λ (v : ℕ). piece v offset count b) same }
+is-piece (turnedAway f) t e = clash (cc)
+is-piece (Rejected range op raw buf) t e = clash (cc)
+is-piece (Done u) t e = clash (cc)
+is-piece (flushAsked u need) t e = clash (cc)
+is-piece (Took c) t e = clash (cc)
+is-piece noneReady t e = clash (cc)
+is-piece isOk t e = clash (cc)
+is-piece (Writes x) t e = clash (cc)
+is-piece (Mark n) t e = clash (cc)
+
+-- a call in the domain lends the opening's lengths
+lent : (s : State) (l : Lengths) (c : Call) → compared (step s l c .1) ≡ true → eqLengths l (s .lengths) ≡ true
+unfolding step compared number pick
+lent s l c = by-lengths (eqLengths l (s .lengths)) refl
+  where
+    by-lengths : (b : Bool) → eqLengths l (s .lengths) ≡ b → compared (pick b (called s c) (s, turnedAway Unfit) .1) ≡ true → b ≡ true
+    by-lengths true q h = refl
+    by-lengths false q h = absurd (not-both h refl)
+
+-- ---- the verdict
+
+module _ (s : State) (l : Lengths) (c : Call) (d : compared (step s l c .1) ≡ true) (w : Bool) (buf : IoBuf) (issued : ℕ) (rust : Submitted → Submitter × Issued) (taken : Submits issued w buf (rust Taken) (step s l c))
+    (refused : (t : ℕ) (offset : Offset) (count b : ℕ) → step s l c .1 ≡ piece t offset count b → (raw : Option RawError) (back : Bool) (flushes : ℕ) → InDomain (some t) (step s l c .0) l (Answers t (refusalOf raw) back flushes)
+    → Submits issued w buf (rust (QueueRefuses raw back)) (step (step s l c .0) l (Answers t (refusalOf raw) back flushes))) where
+  abbrev to : State
+  to = step s l c .0
+
+  -- the refusal lends the same lengths
+  same-lent : (l₂ : Lengths) (x : Call) → compared (step to l₂ x .1) ≡ true → step to l x ≡ step to l₂ x
+  unfolding step pick done
+  same-lent l₂ x h =
+      let same : eqLengths l (to .lengths) ≡ true = ap (λ (k : Lengths). eqLengths l k) (done-stays s l (calls c) .lengths) ∙ lent s l c d in
+      ap (λ (b : Bool). pick b (called to x) (to, turnedAway Unfit)) same ∙ sym (called-step to l₂ x h)
+
+  refused-by : (t : ℕ) (raw : Option RawError) (back : Bool) (flushes : ℕ) (l₂ : Lengths) → InDomain (issues (step s l c .1)) to l₂ (Answers t (refusalOf raw) back flushes)
+      → Submits issued w buf (rust (QueueRefuses raw back)) (step to l₂ (Answers t (refusalOf raw) back flushes))
+  refused-by t raw back flushes l₂ h =
+      let x = Answers t (refusalOf raw) back flushes in
+      let q = tag-issued (issues (step s l c .1)) t raw back flushes (h .refusal) in
+      let p = is-piece (step s l c .1) t q in
+      let same = same-lent l₂ x (h .numbers) in
+      let in-it : InDomain (some t) to l x =
+      record { numbers = ap (λ (z : State × Reply). compared (z .1)) same ∙ h .numbers; handle = h .handle; refusal = subst (λ (o : Option ℕ). atOnce o x ≡ true) q (h .refusal); maps = h .maps } in
+      subst (Submits issued w buf (rust (QueueRefuses raw back))) same (refused t (p .offset) (p .count) (p .b) (p .is) raw back flushes in-it)
+
+  pub submitted : (es : List Event) → HistoryIn true (issues (step s l c .1)) to es → Submits issued w buf (rust (verdict es)) (comesTo (step s l c) es)
+  unfolding verdict comesTo HistoryIn verdictAs isSome pick next replyTo leave done MadeIn refusesFirst
+  submitted [] h = taken
+  submitted (e ∷ es) h = by-refusal (refusedBy (e .made)) refl
+    where
+      by-refusal : (v : Option (Option RawError × Bool)) → refusedBy (e .made) ≡ v → Submits issued w buf (rust (verdictAs v)) (pick (isSome v) (next to e, replyTo to e) (step s l c))
+      by-refusal none q = taken
+      by-refusal (some v) q =
+          let z = refuses (e .made) (v .0) (v .1) q in
+          let same : leave to (e .leaves) ≡ to = ap (leave to) (h .1 (ap (λ (o : Option (Option RawError × Bool)). isSome o && true) q)) in
+          subst (Submits issued w buf (rust (QueueRefuses (v .0) (v .1)))) (λ j. done (sym same j) (e .lengths) (sym (z .is) j))
+          (refused-by (z .t) (v .0) (v .1) (z .flushes) (e .lengths) (subst (λ (m : Made). MadeIn (issues (step s l c .1)) to (e .lengths) m) (z .is) (subst (λ (y : State). MadeIn (issues (step s l c .1)) y (e .lengths) (e .made)) same (h .2))))
