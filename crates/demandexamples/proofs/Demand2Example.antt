@@ -1,11 +1,10 @@
 -- The suppositions of demand 2 can be met: with the opening of document 01's figures a write of two pieces, and a read of two pieces, are served, with a lookup,
 -- another submission, its answer, a flush result too early and a count above the piece in between.
 use mathlib.Core.Path.{_≡_, refl, sym, ap, _∙_, subst}
-use mathlib.Core.Logic.{_≢_}
 use mathlib.Core.Bool.{true, false}
 use mathlib.Core.Option.{none, some}
 use mathlib.Core.List.{List, [], _∷_}
-use Prim.Native.Nat.{ℕ, zero, suc}
+use Prim.Native.Nat.{ℕ, _+_}
 use lib.ListN.{length, replicate, length-replicate}
 use Rattle.layout.specs.Pick.{pick}
 use Rattle.layout.proofs.Tests.{not-both}
@@ -27,7 +26,7 @@ use Rattle.step.specs.Questions.{regionWritable, volumeAndRegionMatch, generati
 use Rattle.step.specs.Questions.{writeQuestions, readQuestions}
 use Rattle.step.specs.Rules.{opOf, firstOf, lastOf, rangeOf, pieceOf, pieceLength, Input, Input.answered, bufferAs, errorOf, turnedBack, isWritten, causeOf, readOutcome, readLength, ticketOf, writtenAs, lastPiece}
 use Rattle.step.specs.Rules.{abovePiece, isRefusal, firstRefused, isWhole, goesOn, splitAfter, pieceAnswered, flushEnds, answerRules, flushRules, rules}
-use Rattle.step.specs.Step.{writesIn, queueTag, topOf, rowAt, verdictOf, writeVerdict, readVerdict, durableAs, claimedBy, oneMore, accepted, submitted, rowOf, generationOf, isLive, names, bytesAt, raised, awaitsNow, oneLess, keptBy, poisonWith}
+use Rattle.step.specs.Step.{queueTag, topOf, rowAt, verdictOf, writeVerdict, readVerdict, durableAs, claimedBy, oneMore, accepted, submitted, rowOf, generationOf, isLive, names, bytesAt, raised, awaitsNow, oneLess, keptBy, poisonWith}
 use Rattle.step.specs.Step.{going, freeing, planOf, asksFor, completionOf, rejection, settled, fateOf, underTag, lookedUp, eqLengths, called, step, look}
 use Rattle.step.specs.Laws.{Made, Made.calls, Made.looks, Event, leave, done, next, replyTo, run}
 use Rattle.step.specs.Lists.{broughtBy, brought, isAway, loose, planAt, leftIn, takesWhole, wroteBy, tagIn, cardBy, Hosted}
@@ -68,7 +67,7 @@ taken-none s m t card e j q heard = clash (let z = sym e ∙ q in cc)
 -- the card is as it was, or the input is the operation's own
 card-stays : (s : State) (m : Made) (t : ℕ) (q : Request) (card : Card) → cardBy s (quiet s m) card ≡ card → Undisturbed s (quiet s m) t q card
 unfolding Undisturbed
-card-stays s m t q card e none-brought i lt = ap (λ (after : Card). after _) e
+card-stays s m t q card e none-brought i lt = ap (λ (after : Card). after (place (regionAt s (q .handle) .map) (q .offset .0 + i))) e
 
 its-own : (s : State) (m : Made) (t : ℕ) (q : Request) (card : Card) (i : Input) → brought t m ≡ some i → Undisturbed s (quiet s m) t q card
 unfolding Undisturbed
@@ -117,7 +116,7 @@ unfolding quietly ServedAll figuresOpening figuresPlan figuresLengths openedBy p
     ask firstNo handleNamesRegion bufferInPool isHost heldAt hostHoldsBuffer roomInTable lifetimeLeft gateOpen storeWritable unpoisoned
     regionWritable volumeAndRegionMatch generationMatches lengthAbove0 writeOnBlock readOnBlock aligned withinData regionAt writeQuestions readQuestions
     planIn plansIn atFirst opened freed upFrom runsIn mapIn spanFrom runOf runEnd runLeft place pieceSize pick onBlock
-    brought broughtBy tagIn tagGiven isAway leftIn loose planAt writesIn WholeTo HoldsCard cardBy wroteBy takesWhole pread
+    brought broughtBy tagIn tagGiven isAway leftIn loose planAt WholeTo HoldsCard cardBy wroteBy takesWhole pread
 computed = record {
   writes = refl;
   reads = refl;
