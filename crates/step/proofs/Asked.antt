@@ -169,7 +169,7 @@ flush-done s l t result = by-pick (eqLengths l (s .lengths)) Finishes (λ same. 
 
 module _ (s : State) (l : Lengths) (same : eqLengths l (s .lengths) ≡ true) where
   -- a call with the opening's lengths
-  called-is : (c : Call) → step s l c ≡ called s c
+  pub called-is : (c : Call) → step s l c ≡ called s c
   unfolding step pick
   called-is c = ap (λ (b : Bool). pick b (called s c) (s, turnedAway Unfit)) same
 

@@ -1,6 +1,6 @@
 -- What the rules make of an operation, whatever arrives. One that goes on has awaited a piece, keeps its range and awaits the next piece, with bytes left, or a
--- flush with its region's ticket. One that ends or is rejected hands back its own buffer or none. Its buffer has as many bytes as before. Only an awaited piece
--- is rejected.
+-- flush with its region's ticket. One that ends or is rejected hands back its own buffer or none. Its buffer has as many bytes as before, and the same if it is
+-- lost. Only an awaited piece is rejected.
 use mathlib.Core.Path.{_≡_, refl}
 use mathlib.Core.Bool.{Bool, true, false, _&&_, _||_}
 use mathlib.Core.List.{List}
@@ -39,6 +39,11 @@ unfoldable pub Own : ℕ → Buffer → Type 0
 Own b (Back k n) = k ≡ b
 Own b Lost = Unit {0}
 
+-- a lost one keeps its bytes as they lie
+unfoldable pub Lies : Buffer → List ℕ → List ℕ → Type 0
+Lies (Back k n) bytes bytes′ = Unit {0}
+Lies Lost bytes bytes′ = bytes′ ≡ bytes
+
 unfoldable pub AwaitsPiece : Awaits → Type 0
 AwaitsPiece Nothing = ⊥
 AwaitsPiece (Piece k s) = Unit {0}
@@ -66,8 +71,8 @@ pub record Onward (o : Opening) (g : Region) (was now : Awaits) : Type 0 where
 unfoldable pub Fitting : Opening → Region → Awaits → ℕ → List ℕ → Fate → Type 0
 Fitting o g was b bytes (away f) = Unit {0}
 Fitting o g was b bytes (awaits now bytes′) = Onward o g was now × (length bytes′ ≡ length bytes)
-Fitting o g was b bytes (ends x buf bytes′ cause) = Own b buf × (length bytes′ ≡ length bytes)
-Fitting o g was b bytes (rejected e buf bytes′) = AwaitsPiece was × Own b buf × (length bytes′ ≡ length bytes)
+Fitting o g was b bytes (ends x buf bytes′ cause) = Own b buf × (length bytes′ ≡ length bytes) × Lies buf bytes bytes′
+Fitting o g was b bytes (rejected e buf bytes′) = AwaitsPiece was × Own b buf × (length bytes′ ≡ length bytes) × (bytes′ ≡ bytes)
 
 -- ---- parts of the rules
 
@@ -75,6 +80,11 @@ pub own-buffer : (back : Bool) (b n : ℕ) → Own b (bufferAs back b n)
 unfolding Own bufferAs
 own-buffer true b n = refl
 own-buffer false b n = tt
+
+turned-back-lies : (back : Bool) (b n : ℕ) (s : Split) (bytes : List ℕ) → Lies (bufferAs back b n) bytes (turnedBack back s bytes)
+unfolding Lies bufferAs turnedBack
+turned-back-lies true b n s bytes = tt
+turned-back-lies false b n s bytes = refl
 
 pub turned-back-length : (back : Bool) (s : Split) (bytes : List ℕ) → length (turnedBack back s bytes) ≡ length bytes
 unfolding turnedBack
@@ -105,21 +115,22 @@ module _ (o : Opening) (g : Region) where
     abbrev Fits : Awaits → Fate → Type 0
     Fits was = Fitting o g was (r .buffer) bytes
 
-    written-fits : (a b : Position) (s : Split) (flushes : ℕ) (buf : Buffer) (bytes′ : List ℕ) → Own (r .buffer) buf → length bytes′ ≡ length bytes
+    written-fits : (a b : Position) (s : Split) (flushes : ℕ) (buf : Buffer) (bytes′ : List ℕ) → Own (r .buffer) buf → length bytes′ ≡ length bytes → Lies buf bytes bytes′
         → Fits (Piece (Page a b) s) (writtenAs o forced first (r .durable) (ticketOf o (planOf g) (Page a b) flushes) buf bytes′)
     unfolding writtenAs Fitting
-    written-fits a b s flushes buf bytes′ own same =
+    written-fits a b s flushes buf bytes′ own same lies =
         by-pick (r .durable) (Fits (Piece (Page a b) s))
-        (λ d. by-pick (o .flush || forced) (Fits (Piece (Page a b) s)) (λ f. (its-flush a b s flushes, same)) (λ f. (own, same)))
-        (λ d. (own, same))
+        (λ d. by-pick (o .flush || forced) (Fits (Piece (Page a b) s)) (λ f. (its-flush a b s flushes, same)) (λ f. (own, same, lies)))
+        (λ d. (own, same, lies))
 
     last-fits : (k : Kind) (s : Split) (answer : Answer) (back : Bool) (flushes : ℕ) → Fits (Piece k s) (lastPiece o (planOf g) forced first r k s bytes answer back flushes)
     unfolding lastPiece Fitting
-    last-fits (Read a b) s answer back flushes = (own-buffer back (r .buffer) (readLength s answer), turned-back-length back s bytes)
+    last-fits (Read a b) s answer back flushes = (own-buffer back (r .buffer) (readLength s answer), turned-back-length back s bytes, turned-back-lies back (r .buffer) (readLength s answer) s bytes)
     last-fits (Page a b) s answer back flushes =
         let own = own-buffer back (r .buffer) (s .total) in
         let same = turned-back-length back s bytes in
-        by-pick (isWritten s answer back) (Fits (Piece (Page a b) s)) (λ w. written-fits a b s flushes _ _ own same) (λ w. (own, same))
+        let lies = turned-back-lies back (r .buffer) (s .total) s bytes in
+        by-pick (isWritten s answer back) (Fits (Piece (Page a b) s)) (λ w. written-fits a b s flushes _ _ own same lies) (λ w. (own, same, lies))
 
     piece-fits : (k : Kind) (s : Split) (answer : Answer) (back : Bool) (flushes : ℕ)
         → Fits (Piece k s) (pieceAnswered o (planOf g) forced first r k s (pieceLength (planOf g) k s) bytes answer back flushes)
@@ -127,7 +138,7 @@ module _ (o : Opening) (g : Region) where
     piece-fits k s answer back flushes =
         let piece = pieceLength (planOf g) k s in
         by-pick (abovePiece piece answer) (Fits (Piece k s)) (λ a. tt)
-        λ a. by-pick (firstRefused s answer) (Fits (Piece k s)) (λ f. (tt, own-buffer back (r .buffer) (s .total), refl))
+        λ a. by-pick (firstRefused s answer) (Fits (Piece k s)) (λ f. (tt, own-buffer back (r .buffer) (s .total), refl, refl))
         λ f. by-pick (goesOn piece s answer back) (Fits (Piece k s))
         (λ w. (next-piece k s (goes-on-left piece s answer back w), turn-laws .length-kept (s .total) _ bytes))
         λ w. last-fits k s answer back flushes
@@ -139,10 +150,10 @@ module _ (o : Opening) (g : Region) where
     answer-fits (Flush t) answer back flushes = tt
 
     flush-fits : (was : Awaits) (result : Flushed) → Fits was (flushRules o r bytes result was)
-    unfolding flushRules flushEnds Fitting Own
+    unfolding flushRules flushEnds Fitting Own Lies
     flush-fits Nothing result = tt
     flush-fits (Piece k s) result = tt
-    flush-fits (Flush t) result = (refl, refl)
+    flush-fits (Flush t) result = (refl, refl, tt)
 
     pub rules-fit : (i : Input) → Fitting o g (r .awaits) (r .buffer) bytes (rules o (planOf g) forced first r bytes i)
     unfolding rules

@@ -92,9 +92,15 @@ module _ (keeps : (s : State) (l : Lengths) (c : Call) → Sound s → Sound (st
   unfolding next
   keeps-next s e i len = keeps-done (leave s (e .leaves)) (e .lengths) (e .made) (leaves s (e .leaves) i len)
 
-  pub histories : (s : State) → Sound s → (n : ℕ) → s .lengths .pool ≡ n → (es : List Event) → Pools n es → Sound (run s es)
+  -- what each event keeps holds after all of them
+  pub kept-through : (P : State → Type 0) → ((s : State) (e : Event) → Sound s → length (e .leaves) ≡ length (s .pool) → P s → P (next s e)) → (s : State) → Sound s → (n : ℕ)
+      → s .lengths .pool ≡ n → (es : List Event) → Pools n es → P s → P (run s es)
   unfolding run next Pools leave
-  histories s i n e [] p = i
-  histories s i n e (x ∷ es) p =
-      histories (next s x) (keeps-next s x i (p .0 ∙ sym (i .pool ∙ e))) n
-      (ap (λ (l : Lengths). l .pool) (done-stays (leave s (x .leaves)) (x .lengths) (x .made) .lengths) ∙ e) es (p .1)
+  kept-through P keep s i n e [] p now = now
+  kept-through P keep s i n e (x ∷ es) p now =
+      let long = p .0 ∙ sym (i .pool ∙ e) in
+      kept-through P keep (next s x) (keeps-next s x i long) n
+      (ap (λ (l : Lengths). l .pool) (done-stays (leave s (x .leaves)) (x .lengths) (x .made) .lengths) ∙ e) es (p .1) (keep s x i long now)
+
+  pub histories : (s : State) → Sound s → (n : ℕ) → s .lengths .pool ≡ n → (es : List Event) → Pools n es → Sound (run s es)
+  histories s i n e es p = kept-through Sound (λ s e i long same. keeps-next s e i long) s i n e es p i

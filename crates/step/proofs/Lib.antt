@@ -57,3 +57,6 @@ pub mod Demand2Walk
 pub mod Demand2Ends
 pub mod Demand2Begun
 pub mod Demand2
+pub mod Lost
+pub mod LostBytes
+pub mod Others

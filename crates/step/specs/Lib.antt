@@ -5,6 +5,7 @@ pub mod Sound
 pub mod Laws
 pub mod Asked
 pub mod Lists
+pub mod Others
 pub mod Alone
 pub mod Demand3
 pub mod Demand2

@@ -1,0 +1,66 @@
+-- What the laws of the questions, the demands and the projection leave to the definitions: lost buffers, the reply that completes, takings, the settings,
+-- reports of poison and the lookups. Each is said here by what a host can see of it. Proved in proofs/Others.antt (other-laws).
+use mathlib.Core.Path.{_≡_}
+use mathlib.Core.Logic.{_≢_}
+use mathlib.Core.Bool.{Bool, true, false}
+use mathlib.Core.Option.{some}
+use mathlib.Core.List.{List, [], _∷_}
+use Prim.Native.Nat.{ℕ, _+_, _*_, _≤_, _<_}
+use lib.ListN.{length, getD}
+use Rattle.domain.specs.declared.FirstCause.{FirstCause}
+use Rattle.domain.specs.declared.Poisoned.the-variants.{Never, First}
+use Rattle.completion.specs.declared.Buffer.the-variants.{Back}
+use Rattle.completion.specs.declared.Completion.{Completion}
+use Rattle.completion.specs.declared.Reply.the-variants.{Done, Took, None as noneReady, Ok, Writes, Mark}
+use Rattle.model.specs.declared.Lengths.{Lengths}
+use Rattle.model.specs.declared.Gate.{Gate}
+use Rattle.model.specs.declared.Request.{Request}
+use Rattle.model.specs.declared.Call.{Call}
+use Rattle.model.specs.declared.Call.the-variants.{Write, ReadPage, Take, SetGate, SetReadOnly, SetForced, ReportPoison}
+use Rattle.model.specs.declared.Lookup.the-variants.{WritesLive, Mark as MarkNow}
+use Rattle.model.specs.State.{Owner.host, Owner.lost, State}
+use Rattle.step.specs.Questions.{regionAt, heldAt}
+use Rattle.step.specs.Rules.{Input}
+use Rattle.step.specs.Step.{rowAt, bytesAt, isLive, writesIn, withRegions, withPoison, step, look, eqLengths}
+use Rattle.step.specs.Sound.{Sound}
+use Rattle.step.specs.Laws.{Event, run, Pools}
+use Rattle.step.specs.Lists.{broughtBy, isAway}
+
+-- a buffer of the pool that is lost
+abbrev pub IsLost : State → ℕ → Type 0
+IsLost s b = getD (s .owners) b host ≡ lost
+
+-- a region's marks are set: of the region under a handle these, of every other region none, and nothing but regions changes
+pub record MarksSet (s s′ : State) (h : ℕ) (gate : Gate) (readOnly forced : Bool) : Type 0 where
+  pub here : regionAt s′ h ≡ record { id = regionAt s h .id; generation = regionAt s h .generation; map = regionAt s h .map; gate = gate; readOnly = readOnly; forced = forced }
+  pub others : (k : ℕ) → k ≢ h → regionAt s′ k ≡ regionAt s k
+  pub rest : withRegions s′ (s .regions) ≡ s
+
+pub record OtherLaws : Type 0 where
+  -- "A buffer that did not come back is never accepted again.": it stays lost whatever is called, so no submission that names it is accepted
+  pub stays-lost : (s : State) (es : List Event) (b : ℕ) → Sound s → Pools (length (s .pool)) es → IsLost s b → IsLost (run s es) b
+  pub lost-refused : (s : State) (l : Lengths) (q : Request) → IsLost s (q .buffer) → (isAway (step s l (Write q) .1) ≡ true) × (isAway (step s l (ReadPage q) .1) ≡ true)
+  -- "(a lost one keeps its bytes as they lie)": no call changes a byte of a buffer that it leaves lost
+  pub lost-lies : (s : State) (l : Lengths) (c : Call) (b : ℕ) → Sound s → IsLost (step s l c .0) b → bytesAt (step s l c .0) b ≡ bytesAt s b
+  -- an answer or a flush result that adds a completion says so, under its own queue tag
+  pub done : (s : State) (l : Lengths) (c : Call) (t : ℕ) (i : Input) → broughtBy t c ≡ some i → length (step s l c .0 .ready) ≡ length (s .ready) + 1 → step s l c .1 ≡ Done t
+  -- "Completions are taken oldest first; taking one gives its buffer back, if it came back. With none ready the reply is none and nothing changes."
+  pub takes : (s : State) (l : Lengths) (c : Completion) (more : List Completion) → Sound s → eqLengths l (s .lengths) ≡ true → s .ready ≡ c ∷ more
+      → (step s l Take .1 ≡ Took c) × (step s l Take .0 .ready ≡ more) × ((b n : ℕ) → c .buf ≡ Back b n → heldAt (step s l Take .0) b ≡ true)
+  pub takes-none : (s : State) (l : Lengths) → eqLengths l (s .lengths) ≡ true → s .ready ≡ [] → step s l Take ≡ (s, noneReady)
+  -- "set a region's gate, read-only or forced mark": of a handle that names a region
+  pub sets-gate : (s : State) (l : Lengths) (h : ℕ) (x : Gate) → Sound s → eqLengths l (s .lengths) ≡ true → h < s .settings .regions
+      → MarksSet s (step s l (SetGate h x) .0) h x (regionAt s h .readOnly) (regionAt s h .forced)
+  pub sets-read-only : (s : State) (l : Lengths) (h : ℕ) (x : Bool) → Sound s → eqLengths l (s .lengths) ≡ true → h < s .settings .regions
+      → MarksSet s (step s l (SetReadOnly h x) .0) h (regionAt s h .gate) x (regionAt s h .forced)
+  pub sets-forced : (s : State) (l : Lengths) (h : ℕ) (x : Bool) → Sound s → eqLengths l (s .lengths) ≡ true → h < s .settings .regions
+      → MarksSet s (step s l (SetForced h x) .0) h (regionAt s h .gate) (regionAt s h .readOnly) x
+  -- "report poison with a cause (the first is kept)": the first; that a later one changes nothing is StepLaws' first-kept
+  pub reports : (s : State) (l : Lengths) (cause : FirstCause) → eqLengths l (s .lengths) ≡ true → s .poison ≡ Never → step s l (ReportPoison cause) ≡ (withPoison s (First cause), Ok)
+  -- "whether a write still awaits a piece"
+  pub writes : (s : State) (l : Lengths) (r : ℕ) → eqLengths l (s .lengths) ≡ true → writesIn (rowAt s r .awaits) ≡ true → look s l WritesLive ≡ Writes true
+  pub no-writes : (s : State) (l : Lengths) → eqLengths l (s .lengths) ≡ true → ((r : ℕ) → writesIn (rowAt s r .awaits) ≡ false) → look s l WritesLive ≡ Writes false
+  -- "the mark, 2 × the oldest live sequence number + 1, or 2 × the next if none is live"
+  pub mark : (s : State) (l : Lengths) (r : ℕ) → Sound s → eqLengths l (s .lengths) ≡ true → isLive (rowAt s r .awaits) ≡ true
+      → ((k : ℕ) → isLive (rowAt s k .awaits) ≡ true → rowAt s r .seq ≤ rowAt s k .seq) → look s l MarkNow ≡ Mark (2 * rowAt s r .seq + 1)
+  pub mark-none : (s : State) (l : Lengths) → eqLengths l (s .lengths) ≡ true → ((r : ℕ) → isLive (rowAt s r .awaits) ≡ false) → look s l MarkNow ≡ Mark (2 * s .counts .submissions)
