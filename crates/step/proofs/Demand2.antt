@@ -24,7 +24,7 @@ use Rattle.step.specs.Laws.{Made, Made.calls, Event, leave, done, replyT
 use Rattle.step.specs.Lists.{Completed, Hosted}
 use Rattle.step.specs.Alone.{tagGiven}
 use Rattle.step.specs.Demand3.{Start, openedBy, after}
-use Rattle.step.specs.Demand2.{Served, Accepted, bufferThen, begun, getsIn, Issues, Wrote, DidRead, Followed, AllWhole, isKept, Demand2}
+use Rattle.step.specs.Demand2.{Served, Accepted, bufferThen, submittedIn, getsIn, Issues, Wrote, DidRead, Followed, AllWhole, isKept, Demand2}
 use Rattle.step.proofs.Demand2Others.{card-others, pool-others}
 use Rattle.step.proofs.Demand2Bytes.{gathered-length, gathered-at}
 use Rattle.step.proofs.Demand2Fate.{pages}
@@ -50,17 +50,17 @@ module _ (x : Start) (h : List Event) (e : Event) (t : ℕ) (q : Request) (hoste
     abbrev its : Task
     its = task x (after x h) (before x h e hosted .sound) (before x h e hosted .fixed) e (may x h e hosted) q k t g first last new long of-write
 
-    along : (card : Card) → (pages k ≡ false → (i : ℕ) → i < q .length → card (place m (q .offset .0 + i)) ≡ getD new i 0) → (es : List Event) → Served (begun x h e) es t q card → Along its (begun x h e) es card 0 × Issues x h e t q es
+    along : (card : Card) → (pages k ≡ false → (i : ℕ) → i < q .length → card (place m (q .offset .0 + i)) ≡ getD new i 0) → (es : List Event) → Served (submittedIn x h e) es t q card → Along its (submittedIn x h e) es card 0 × Issues x h e t q es
     along card reads es served =
         let o = opens x (after x h) (before x h e hosted .sound) (before x h e hosted .fixed) e (may x h e hosted) q k t g first last new long of-write card reads in
-        let z = stands its es (begun x h e) card 0 0 o served in
-        (walk its es (begun x h e) card 0 0 o served, record { awaited = awaited its (begun x h e) es z; ends = ends its (begun x h e) es z; not-before = not-before its (begun x h e) es z })
+        let z = stands its es (submittedIn x h e) card 0 0 o served in
+        (walk its es (submittedIn x h e) card 0 0 o served, record { awaited = awaited its (submittedIn x h e) es z; ends = ends its (submittedIn x h e) es z; not-before = not-before its (submittedIn x h e) es z })
 
 module _ (x : Start) (h : List Event) (e : Event) (t : ℕ) (q : Request) where
   abbrev s₁ : State
   s₁ = leave (after x h) (e .leaves)
 
-  write : Accepted x h e t q (calls (Write q)) → (card : Card) (es : List Event) → Served (begun x h e) es t q card → Wrote x h e t q card es
+  write : Accepted x h e t q (calls (Write q)) → (card : Card) (es : List Event) → Served (submittedIn x h e) es t q card → Wrote x h e t q card es
   unfolding replyTo firstOf lastOf pages
   write a card es served =
       let k = Page (startOf q) (endOf q) in
@@ -77,7 +77,7 @@ module _ (x : Start) (h : List Event) (e : Event) (t : ℕ) (q : Request) where
         issues = both .1;
       }
 
-  read : Accepted x h e t q (calls (ReadPage q)) → (card : Card) (es : List Event) → Served (begun x h e) es t q card → DidRead x h e t q card es
+  read : Accepted x h e t q (calls (ReadPage q)) → (card : Card) (es : List Event) → Served (submittedIn x h e) es t q card → DidRead x h e t q card es
   unfolding replyTo firstOf lastOf pages
   read a card es served =
       let k = Read (startOf q) (endOf q) in
@@ -93,8 +93,8 @@ module _ (x : Start) (h : List Event) (e : Event) (t : ℕ) (q : Request) where
         issues = both .1;
       }
 
-  kept : Accepted x h e t q (calls (Write q)) → (es : List Event) → Followed (begun x h e) es t → (c : Completion) (bytes : List ℕ) (more : List Completed) → getsIn x h e t q es ≡ (c, bytes) ∷ more
-      → isKept (c .outcome) ≡ true → AllWhole (begun x h e) es t
+  kept : Accepted x h e t q (calls (Write q)) → (es : List Event) → Followed (submittedIn x h e) es t → (c : Completion) (bytes : List ℕ) (more : List Completed) → getsIn x h e t q es ≡ (c, bytes) ∷ more
+      → isKept (c .outcome) ≡ true → AllWhole (submittedIn x h e) es t
   unfolding replyTo firstOf lastOf pages
   kept a es followed c bytes more got ok =
       let k = Page (startOf q) (endOf q) in
@@ -102,7 +102,7 @@ module _ (x : Start) (h : List Event) (e : Event) (t : ℕ) (q : Request) where
       let same = bufferThen x e q in
       let o = opens x (after x h) (before x h e (a .hosted) .sound) (before x h e (a .hosted) .fixed) e (may x h e (a .hosted)) q k t g refl refl (take (q .length) same)
       (old-length x h e t q (a .hosted) k g) (λ page. refl) (λ y. 0) (λ reads. absurd (not-both refl reads)) in
-      kept-from t (q .buffer) c bytes more ok es (begun x h e) (o .sound) (stage-writes _ 0 0 _ refl (o .in-row .stage)) followed got
+      kept-from t (q .buffer) c bytes more ok es (submittedIn x h e) (o .sound) (stage-writes _ 0 0 _ refl (o .in-row .stage)) followed got
 
 pub demand2 : Demand2
 demand2 = record { write = write; read = read; kept = kept; card-others = card-others; pool-others = pool-others }

@@ -95,8 +95,8 @@ unfoldable pub bufferThen : Start → Event → Request → List ℕ
 bufferThen x e q = stretch (x .opening .capacity) (q .buffer) (e .leaves)
 
 -- the table after the submission
-abbrev pub begun : Start → List Event → Event → State
-begun x h e = next (after x h) e
+abbrev pub submittedIn : Start → List Event → Event → State
+submittedIn x h e = next (after x h) e
 
 -- the operation has no piece under way any more
 unfoldable pub NoPiece : Awaits → Type 0
@@ -149,10 +149,10 @@ Over s t = names (rowAt s (rowOf t)) t ≡ false
 
 -- what the operation has been given, and what it gets
 abbrev pub givenTo : Start → List Event → Event → ℕ → List Event → List Given
-givenTo x h e t es = given (begun x h e) es t
+givenTo x h e t es = given (submittedIn x h e) es t
 
 abbrev pub getsIn : Start → List Event → Event → ℕ → Request → List Event → List Completed
-getsIn x h e t q es = gets (begun x h e) es t (q .buffer)
+getsIn x h e t q es = gets (submittedIn x h e) es t (q .buffer)
 
 -- the piece awaited after so many answers is of the request's range, and the first of the map's pieces behind as many: those are the pieces of the bytes left
 pub record ToCome (m : Map) (q : Request) (answers : ℕ) (k : Kind) (sp : Split) : Type 0 where
@@ -162,25 +162,25 @@ pub record ToCome (m : Map) (q : Request) (answers : ℕ) (k : Kind) (sp : Split
 
 -- which pieces are issued, and how many: ".. and one that issues nothing fail demand 2. One that issues the first piece and then reports the whole fails 2 and 3."
 pub record Issues (x : Start) (h : List Event) (e : Event) (t : ℕ) (q : Request) (es : List Event) : Type 0 where
-  pub awaited : (k : Kind) (sp : Split) → names (rowAt (run (begun x h e) es) (rowOf t)) t ≡ true → rowAt (run (begun x h e) es) (rowOf t) .awaits ≡ Piece k sp
+  pub awaited : (k : Kind) (sp : Split) → names (rowAt (run (submittedIn x h e) es) (rowOf t)) t ≡ true → rowAt (run (submittedIn x h e) es) (rowOf t) .awaits ≡ Piece k sp
       → ToCome (regionAt (after x h) (q .handle) .map) q (answersIn (givenTo x h e t es)) k sp
   -- they come to an end: given as many answers as the map has pieces for its range, the operation is done with them
-  pub ends : length (pieces (regionAt (after x h) (q .handle) .map) (q .offset .0) (q .length)) ≤ answersIn (givenTo x h e t es) → PiecesDone (run (begun x h e) es) t
+  pub ends : length (pieces (regionAt (after x h) (q .handle) .map) (q .offset .0) (q .length)) ≤ answersIn (givenTo x h e t es) → PiecesDone (run (submittedIn x h e) es) t
   -- and not before
-  pub not-before : PiecesDone (run (begun x h e) es) t → length (pieces (regionAt (after x h) (q .handle) .map) (q .offset .0) (q .length)) ≤ answersIn (givenTo x h e t es)
+  pub not-before : PiecesDone (run (submittedIn x h e) es) t → length (pieces (regionAt (after x h) (q .handle) .map) (q .offset .0) (q .length)) ≤ answersIn (givenTo x h e t es)
 
 pub record Wrote (x : Start) (h : List Event) (e : Event) (t : ℕ) (q : Request) (card : Card) (es : List Event) : Type 0 where
   -- once its pieces are done every byte has arrived at its mapped card offset
-  pub arrived : PiecesDone (run (begun x h e) es) t
-      → (i : ℕ) → i < q .length → cardAfter (begun x h e) es card (place (regionAt (after x h) (q .handle) .map) (q .offset .0 + i)) ≡ getD (bufferThen x e q) i 0
+  pub arrived : PiecesDone (run (submittedIn x h e) es) t
+      → (i : ℕ) → i < q .length → cardAfter (submittedIn x h e) es card (place (regionAt (after x h) (q .handle) .map) (q .offset .0 + i)) ≡ getD (bufferThen x e q) i 0
   -- once it is over it has got one completion: the host's tag, its buffer at its whole length with the bytes that it held at acceptance, and what such a write comes to, by the
   -- flush count of its last answer, its flush result, and the poison at the end
-  pub completes : Over (run (begun x h e) es) t
+  pub completes : Over (run (submittedIn x h e) es) t
       → getsIn x h e t q es
       ≡ (
         record {
           tag = q .tag;
-          outcome = writtenTo (x .opening) (run (begun x h e) es .poison) (q .durable)
+          outcome = writtenTo (x .opening) (run (submittedIn x h e) es .poison) (q .durable)
               (ticketOf (x .opening) (planOf (regionAt (after x h) (q .handle))) (Page (startOf q) (endOf q)) (countGiven 0 (givenTo x h e t es))) (resultGiven (givenTo x h e t es));
           buf = Back (q .buffer) (q .length);
         },
@@ -188,19 +188,19 @@ pub record Wrote (x : Start) (h : List Event) (e : Event) (t : ℕ) (q : Request
       )
       ∷ []
   -- a durable one without a flush result: neither policy nor forced mark stood at the end
-  pub no-flush : Over (run (begun x h e) es) t → q .durable ≡ true → resultGiven (givenTo x h e t es) ≡ none
-      → x .opening .flush || regionAt (run (begun x h e) es) (q .handle) .forced ≡ false
+  pub no-flush : Over (run (submittedIn x h e) es) t → q .durable ≡ true → resultGiven (givenTo x h e t es) ≡ none
+      → x .opening .flush || regionAt (run (submittedIn x h e) es) (q .handle) .forced ≡ false
   -- and before, none
-  pub none-yet : names (rowAt (run (begun x h e) es) (rowOf t)) t ≡ true → getsIn x h e t q es ≡ []
+  pub none-yet : names (rowAt (run (submittedIn x h e) es) (rowOf t)) t ≡ true → getsIn x h e t q es ≡ []
   pub issues : Issues x h e t q es
 
 pub record DidRead (x : Start) (h : List Event) (e : Event) (t : ℕ) (q : Request) (card : Card) (es : List Event) : Type 0 where
   -- the card's bytes of the whole range, and behind them the buffer's own
-  pub completes : Over (run (begun x h e) es) t
+  pub completes : Over (run (submittedIn x h e) es) t
       → getsIn x h e t q es
       ≡ (record { tag = q .tag; outcome = readTo (q .length); buf = Back (q .buffer) (q .length) }, gathered card (regionAt (after x h) (q .handle) .map) (q .offset .0) (q .length) ++ drop (q .length) (bufferThen x e q))
       ∷ []
-  pub none-yet : names (rowAt (run (begun x h e) es) (rowOf t)) t ≡ true → getsIn x h e t q es ≡ []
+  pub none-yet : names (rowAt (run (submittedIn x h e) es) (rowOf t)) t ≡ true → getsIn x h e t q es ≡ []
   pub issues : Issues x h e t q es
 
 -- ---- the converse, whatever the card answers
@@ -230,12 +230,12 @@ isKept (poisonedBy c) = false
 
 pub record Demand2 : Type 0 where
   pub write : (x : Start) (h : List Event) (e : Event) (t : ℕ) (q : Request) → Accepted x h e t q (calls (Write q)) → (card : Card) (es : List Event)
-      → Served (begun x h e) es t q card → Wrote x h e t q card es
+      → Served (submittedIn x h e) es t q card → Wrote x h e t q card es
   pub read : (x : Start) (h : List Event) (e : Event) (t : ℕ) (q : Request) → Accepted x h e t q (calls (ReadPage q)) → (card : Card) (es : List Event)
-      → Served (begun x h e) es t q card → DidRead x h e t q card es
+      → Served (submittedIn x h e) es t q card → DidRead x h e t q card es
   -- a write that is counted as kept had each of its pieces taken whole with its buffer back, in whatever order and form the card answered
-  pub kept : (x : Start) (h : List Event) (e : Event) (t : ℕ) (q : Request) → Accepted x h e t q (calls (Write q)) → (es : List Event) → Followed (begun x h e) es t
-      → (c : Completion) (bytes : List ℕ) (more : List Completed) → getsIn x h e t q es ≡ (c, bytes) ∷ more → isKept (c .outcome) ≡ true → AllWhole (begun x h e) es t
+  pub kept : (x : Start) (h : List Event) (e : Event) (t : ℕ) (q : Request) → Accepted x h e t q (calls (Write q)) → (es : List Event) → Followed (submittedIn x h e) es t
+      → (c : Completion) (bytes : List ℕ) (more : List Completed) → getsIn x h e t q es ≡ (c, bytes) ∷ more → isKept (c .outcome) ≡ true → AllWhole (submittedIn x h e) es t
   -- "and touch no other byte", of card or pool: an answer changes no card byte but those that its operation is still to write, and no call a byte of a buffer that is not the
   -- buffer of the live row that its tag names
   pub card-others : (s : State) (e : Event) (card : Card) (y : ℕ) → Sound s → (writesIn (rowAt s (rowOf (tagIn (e .made))) .awaits) ≡ true → ToWrite s (rowAt s (rowOf (tagIn (e .made)))) y → ⊥) → cardBy s e card y ≡ card y
