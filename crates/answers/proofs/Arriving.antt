@@ -21,7 +21,6 @@ use Rattle.model.specs.declared.Row.{Row}
 use Rattle.model.specs.declared.Call.{Call}
 use Rattle.model.specs.declared.Call.the-variants.{Answer as answerCall, Flushed as flushedCall}
 use Rattle.model.specs.State.{State, freed}
-use Rattle.model.specs.Opening.{Plan}
 use Rattle.model.specs.Memory.{Lent, lengthsOf, sameLengths, settingsIn, poisonIn, stateIn}
 use Rattle.step.specs.Questions.{regionAt}
 use Rattle.step.specs.Rules.{Input, Input.answered, Input.flushed, rules}

@@ -2,30 +2,23 @@
 use mathlib.Core.Path.{_≡_, refl, sym, ap, _∙_}
 use mathlib.Core.Bool.{true, false}
 use mathlib.Core.Logic.{⊎-elim}
-use mathlib.Core.List.{List}
 use Prim.Native.Nat.{ℕ, _<_, _≤_}
 use native.Mathlib.Omega.{arith}
 use borrow.Author.Tests.{ltb-true, ltb-false}
-use lib.ListN.{length, getD, set, take, length-take, List·getD-eq-default}
+use lib.ListN.{length, getD, take, length-take, List·getD-eq-default}
 use lib.Seq.{getD-take}
 use lib.Dec.{ltb}
 use Rattle.layout.specs.Pick.{pick}
-use Rattle.layout.proofs.Tests.{not-both, true-or-false}
-use Rattle.completion.specs.declared.Refusal.{Refusal}
+use Rattle.layout.proofs.Tests.{true-or-false}
 use Rattle.completion.specs.declared.Refusal.the-variants.{UnknownTag}
 use Rattle.completion.specs.declared.Reply.the-variants.{No as turnedAway}
 use Rattle.model.specs.declared.Counts.{Counts}
 use Rattle.model.specs.declared.Row.{Row}
-use Rattle.model.specs.declared.Call.{Call}
 use Rattle.model.specs.State.{State, freed}
-use Rattle.model.specs.Memory.{Lent, lengthsOf, sameLengths, settingsIn, stateIn}
+use Rattle.model.specs.Memory.{Lent, settingsIn, stateIn}
 use Rattle.step.specs.Rules.{Input}
-use Rattle.step.specs.Step.{rowOf, rowAt, isLive, names, fateOf, settled, underTag, called}
-use Rattle.step.specs.Sound.{Sound}
-use Rattle.optable.specs.Counted.{acceptedIf, releasedBy}
-use Rattle.called.specs.declared.Touched.{Touched}
-use Rattle.called.specs.Called.{lentOf, awayWith, placeOf, Beyond, CallsTo}
-use Rattle.marks.proofs.Calling.{stepped, put-back}
+use Rattle.step.specs.Step.{rowOf, rowAt, isLive, names, fateOf, settled, underTag}
+use Rattle.called.specs.Called.{Beyond}
 
 -- the row that a tag names, of a table in what is lent: within the depth it is the one lent
 pub row-at : (c : Counts) (l : Lent) (r : ℕ) → r < settingsIn (l .store) .depth → getD (l .rows) r (freed 0) ≡ rowAt (stateIn c l) r

@@ -4,11 +4,11 @@ use mathlib.Core.Path.{_≡_, refl, sym, _∙_, subst}
 use mathlib.Core.Bool.{true, false}
 use mathlib.Core.Option.{some}
 use mathlib.Core.List.{List, [], _∷_, _++_}
-use Prim.Native.Nat.{ℕ, _+_, _<_}
+use Prim.Native.Nat.{ℕ, _+_, _≤_, _<_}
 use lib.ListN.{length, take, drop, getD, take-append-drop}
 use lib.Seq.{length-take-le, getD-take}
 use Rattle.layout.proofs.Tests.{not-both}
-use Rattle.regionmap.specs.Map.{Map, place}
+use Rattle.regionmap.specs.Map.{Map, place, pieces}
 use Rattle.posix.specs.Posix.{Card}
 use Rattle.transfer.specs.Transfer.{gathered}
 use Rattle.completion.specs.declared.Completion.{Completion}
@@ -24,12 +24,12 @@ use Rattle.step.specs.Laws.{Made, Made.calls, Event, leave, done, replyT
 use Rattle.step.specs.Lists.{Completed, Hosted}
 use Rattle.step.specs.Alone.{tagGiven}
 use Rattle.step.specs.Demand3.{Start, openedBy, after}
-use Rattle.step.specs.Demand2.{Served, Accepted, bufferThen, submittedIn, getsIn, Issues, Wrote, DidRead, Followed, AllWhole, isKept, Demand2}
+use Rattle.step.specs.Demand2.{Served, Accepted, bufferThen, submittedIn, givenTo, answersIn, getsIn, Issues, Wrote, DidRead, Followed, AllWhole, isKept, Demand2}
 use Rattle.step.proofs.Demand2Others.{card-others, pool-others}
 use Rattle.step.proofs.Demand2Bytes.{gathered-length, gathered-at}
 use Rattle.step.proofs.Demand2Fate.{pages}
 use Rattle.step.proofs.Demand2Task.{Task}
-use Rattle.step.proofs.Demand2Kept.{stage-writes, kept-from}
+use Rattle.step.proofs.Demand2Kept.{stage-writes, kept-from, all-answered}
 use Rattle.step.proofs.Demand2Walk.{Along, walk}
 use Rattle.step.proofs.Demand2Ends.{stands, awaited, ends, not-before}
 use Rattle.step.proofs.Demand2Begun.{Begun, begun-write, begun-read, before, may, then-length, task, opens}
@@ -94,7 +94,7 @@ module _ (x : Start) (h : List Event) (e : Event) (t : ℕ) (q : Request) where
       }
 
   kept : Accepted x h e t q (calls (Write q)) → (es : List Event) → Followed (submittedIn x h e) es t → (c : Completion) (bytes : List ℕ) (more : List Completed) → getsIn x h e t q es ≡ (c, bytes) ∷ more
-      → isKept (c .outcome) ≡ true → AllWhole (submittedIn x h e) es t
+      → isKept (c .outcome) ≡ true → AllWhole (submittedIn x h e) es t × (length (pieces (regionAt (after x h) (q .handle) .map) (q .offset .0) (q .length)) ≤ answersIn (givenTo x h e t es))
   unfolding replyTo firstOf lastOf pages
   kept a es followed c bytes more got ok =
       let k = Page (startOf q) (endOf q) in
@@ -102,7 +102,8 @@ module _ (x : Start) (h : List Event) (e : Event) (t : ℕ) (q : Request) where
       let same = bufferThen x e q in
       let o = opens x (after x h) (before x h e (a .hosted) .sound) (before x h e (a .hosted) .fixed) e (may x h e (a .hosted)) q k t g refl refl (take (q .length) same)
       (old-length x h e t q (a .hosted) k g) (λ page. refl) (λ y. 0) (λ reads. absurd (not-both refl reads)) in
-      kept-from t (q .buffer) c bytes more ok es (submittedIn x h e) (o .sound) (stage-writes _ 0 0 _ refl (o .in-row .stage)) followed got
+      let z = kept-from t (q .buffer) c bytes more ok es (submittedIn x h e) (o .sound) (stage-writes _ 0 0 _ refl (o .in-row .stage)) followed got in
+      (z .0, all-answered _ (submittedIn x h e) (o .in-row) (o .map-is) (answersIn (givenTo x h e t es)) (z .1))
 
 pub demand2 : Demand2
 demand2 = record { write = write; read = read; kept = kept; card-others = card-others; pool-others = pool-others }

@@ -233,9 +233,10 @@ pub record Demand2 : Type 0 where
       → Served (submittedIn x h e) es t q card → Wrote x h e t q card es
   pub read : (x : Start) (h : List Event) (e : Event) (t : ℕ) (q : Request) → Accepted x h e t q (calls (ReadPage q)) → (card : Card) (es : List Event)
       → Served (submittedIn x h e) es t q card → DidRead x h e t q card es
-  -- a write that is counted as kept had each of its pieces taken whole with its buffer back, in whatever order and form the card answered
+  -- a write that is counted as kept had all of its pieces answered, and each taken whole with its buffer back, in whatever order and form the card answered
   pub kept : (x : Start) (h : List Event) (e : Event) (t : ℕ) (q : Request) → Accepted x h e t q (calls (Write q)) → (es : List Event) → Followed (submittedIn x h e) es t
-      → (c : Completion) (bytes : List ℕ) (more : List Completed) → getsIn x h e t q es ≡ (c, bytes) ∷ more → isKept (c .outcome) ≡ true → AllWhole (submittedIn x h e) es t
+      → (c : Completion) (bytes : List ℕ) (more : List Completed) → getsIn x h e t q es ≡ (c, bytes) ∷ more → isKept (c .outcome) ≡ true
+      → AllWhole (submittedIn x h e) es t × (length (pieces (regionAt (after x h) (q .handle) .map) (q .offset .0) (q .length)) ≤ answersIn (givenTo x h e t es))
   -- "and touch no other byte", of card or pool: an answer changes no card byte but those that its operation is still to write, and no call a byte of a buffer that is not the
   -- buffer of the live row that its tag names
   pub card-others : (s : State) (e : Event) (card : Card) (y : ℕ) → Sound s → (writesIn (rowAt s (rowOf (tagIn (e .made))) .awaits) ≡ true → ToWrite s (rowAt s (rowOf (tagIn (e .made)))) y → ⊥) → cardBy s e card y ≡ card y
