@@ -1,5 +1,5 @@
--- Events in which the host may write: it makes a call or a lookup, with the pool as it was, or after it has put bytes at the front of a buffer that it holds, or
--- after bytes have come into a read's piece under way. What is supposed of a list of such events is a test, so that it holds of a given list by computation.
+-- What is supposed of a list of the host's acts is a test, so that it holds of a given list by computation: the host puts bytes only into a buffer that it holds, or
+-- into a read's piece under way.
 use mathlib.Core.Path.{_≡_, refl, sym, ap, _∙_, subst}
 use mathlib.Core.Logic.{_⊎_, inl, inr}
 use mathlib.Core.Bool.{Bool, true, false, not, _&&_, _||_}
@@ -14,10 +14,9 @@ use lib.Dec.{leb, ltb, eqb}
 use Rattle.layout.specs.Pick.{pick}
 use borrow.Author.Tests.{ltb-true, leb-true, eqb-true}
 use Rattle.layout.proofs.Tests.{not-both, and-left, and-right, or-cases}
-use Rattle.iobuf.specs.Turn.{stretch, withStretch}
+use Rattle.iobuf.specs.Turn.{stretch}
 use Rattle.iobuf.specs.TurnLaws.{Fits as LiesIn}
 use Rattle.iobuf.proofs.Laws.{turn-laws}
-use Rattle.completion.specs.declared.Reply.{Reply}
 use Rattle.model.specs.declared.Kind.the-variants.{Page, Read}
 use Rattle.model.specs.declared.Awaits.{Awaits}
 use Rattle.model.specs.declared.Awaits.the-variants.{Nothing, Piece, Flush}
@@ -28,49 +27,15 @@ use Rattle.step.specs.Questions.{regionAt, heldAt}
 use Rattle.step.specs.Rules.{pieceLength, isWhole, isRefusal, firstRefused, Input, Input.answered, Input.flushed}
 use Rattle.step.specs.Step.{rowOf, rowAt, isLive, bytesAt}
 use Rattle.step.specs.Sound.{Sound}
-use Rattle.step.specs.Laws.{Made, Event, leave, next, replyTo}
+use Rattle.step.specs.Laws.{Event, leave, next, replyTo}
 use Rattle.step.specs.Lists.{brought, isAway, loose, planAt, leftIn, Given, givenAs, givenBy, given, isBrought, tagIn, LooseIn, HostMay, Hosted}
 use Rattle.step.specs.Demand3.{isListed, FairTo, Fair, Fits}
 use Rattle.step.proofs.AloneTags.{clash}
 use Rattle.step.proofs.Buffers.{in-pool, bytes-length}
 use Rattle.step.proofs.Histories.{keeps-next}
 use Rattle.step.proofs.Laws.{keeps}
+use Rattle.demandexamples.specs.Acts.{Act, Act.makes, Act.writes, Act.arrives, Act.lends, madeIn, fronted, leavesOf, eventOf, eventsOf}
 use Rattle.demandexamples.proofs.Quiet.{may}
-
--- ---- what the host does
-
-pub data Act : Type 0 where
-  makes : Made → Act
-  -- bytes at the front of a buffer, then a call or a lookup
-  writes : ℕ → List ℕ → Made → Act
-  -- bytes at the front of the buffer of a row, then a call or a lookup
-  arrives : ℕ → List ℕ → Made → Act
-
-unfoldable pub madeIn : Act → Made
-madeIn (makes m) = m
-madeIn (writes b bytes m) = m
-madeIn (arrives r bytes m) = m
-
--- the pool with bytes at the front of a buffer
-unfoldable pub fronted : State → ℕ → List ℕ → List ℕ
-fronted s b bytes = withStretch (s .settings .capacity) b (over bytes (bytesAt s b)) (s .pool)
-
-unfoldable pub leavesOf : State → Act → List ℕ
-leavesOf s (makes m) = s .pool
-leavesOf s (writes b bytes m) = fronted s b bytes
-leavesOf s (arrives r bytes m) = fronted s (rowAt s r .buffer) bytes
-
-abbrev pub eventOf : State → Act → Event
-eventOf s a = record { leaves = leavesOf s a; lengths = s .lengths; made = madeIn a }
-
-unfoldable pub eventsOf : State → List Act → List Event
-eventsOf s [] = []
-eventsOf s (a ∷ more) = eventOf s a ∷ eventsOf (next s (eventOf s a)) more
-
--- what the table replies to each
-unfoldable pub replies : State → List Event → List Reply
-replies s [] = []
-replies s (e ∷ es) = replyTo s e ∷ replies (next s e) es
 
 -- ---- the host may do it: the buffer is held, or the bytes are within the piece under way
 
@@ -85,6 +50,7 @@ unfoldable pub permits : State → Act → Bool
 permits s (makes m) = true
 permits s (writes b bytes m) = inBuffer s b bytes && heldAt s b
 permits s (arrives r bytes m) = inBuffer s (rowAt s r .buffer) bytes && (isLive (rowAt s r .awaits) && leb (length bytes) (looseAt s r))
+permits s (lends l m) = true
 
 -- past what is put at the front, all is as it was
 past-over : (n : ℕ) (xs ys : List ℕ) → length xs ≤ n → drop n (over xs ys) ≡ drop n ys
@@ -144,6 +110,7 @@ may-act s (arrives r bytes m) i p =
     let fits = and-left (inBuffer s (rowAt s r .buffer) bytes) (live && within) p in
     let there = and-right (inBuffer s (rowAt s r .buffer) bytes) (live && within) p in
     may-front s i (rowAt s r .buffer) bytes fits (inr (inr (loose-in s i r bytes fits (and-left live within there) (and-right live within there))))
+may-act s (lends l m) i p = may s
 
 after-act : (s : State) (a : Act) → Sound s → permits s a ≡ true → Sound (next s (eventOf s a))
 after-act s a i p = keeps-next keeps s (eventOf s a) i (may-act s a i p .count)
@@ -230,6 +197,7 @@ unfoldable pub bytesIn : Act → List ℕ
 bytesIn (makes m) = []
 bytesIn (writes b bytes m) = []
 bytesIn (arrives r bytes m) = bytes
+bytesIn (lends l m) = []
 
 unfoldable pub toldBy : State → Act → ℕ → List Given
 toldBy s a t = givenAs (brought t (madeIn a)) (isAway (replyTo s (eventOf s a))) (bytesIn a)
@@ -243,6 +211,7 @@ unfoldable pub allCome : ℕ → ℕ → Act → Bool
 allCome row n (makes m) = eqb n 0
 allCome row n (writes b bytes m) = eqb n 0
 allCome row n (arrives r bytes m) = eqb r row && eqb (length bytes) n
+allCome row n (lends l m) = eqb n 0
 
 unfoldable pub tells : State → Act → ℕ → Bool
 tells s a t =
@@ -276,6 +245,7 @@ left-told s (arrives r bytes m) row i p c =
     let long = eqb-true (length bytes) (looseAt s row) (and-right (eqb r row) (eqb (length bytes) (looseAt s row)) c) in
     let fits = and-left (inBuffer s (rowAt s r .buffer) bytes) (isLive (rowAt s r .awaits) && leb (length bytes) (looseAt s r)) p in
     subst (λ (k : ℕ). leftIn (leave s (fronted s (rowAt s r .buffer) bytes)) (rowAt s k) ≡ bytes) is (left-arrived s i r bytes fits (long ∙ ap (looseAt s) (sym is)))
+left-told s (lends l m) row i p c = left-none s (s .pool) row (eqb-true (looseAt s row) 0 c)
 
 given-same : (o : Option Input) (away come : Bool) (x y : List ℕ) → (come ≡ true → x ≡ y) → (not (isBrought o) || (away || come)) ≡ true → givenAs o away x ≡ givenAs o away y
 unfolding isBrought givenAs pick

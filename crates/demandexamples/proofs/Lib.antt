@@ -2,5 +2,5 @@
 pub mod Quiet
 pub mod Acts
 pub mod Demand2Example
-pub mod Demand3Lists
+pub mod Demand3Computed
 pub mod Demand3Example
