@@ -6,7 +6,7 @@ use Prim.Native.Nat.{ℕ, zero, suc, _+_, _≤_, _<_, min}
 use native.Mathlib.Numerals.{add-one}
 use native.Mathlib.Omega.{arith}
 use lib.ListN.{length, take, drop, getD, length-append, drop-of-length-le}
-use lib.Seq.{drop-cons, take-nil}
+use lib.Seq.{drop-cons}
 use lib.Dec.{T, ltb, eqb}
 use borrow.Author.Tests.{lt-ltb, le-ltb, eq-eqb, ne-eqb}
 use Rattle.trace.specs.declared.Reader.{Reader}
@@ -21,13 +21,6 @@ not-both t f = subst T f (subst T (sym t) tt)
 pub some-kept : (n m : ℕ) → n ≡ min 4096 m → ltb 0 n ≡ ltb 0 m
 some-kept n zero e = le-ltb 0 n (omega arith) ∙ sym (le-ltb 0 zero (omega arith))
 some-kept n (suc m) e = lt-ltb 0 n (omega arith) ∙ sym (lt-ltb 0 (suc m) (omega arith))
-
-take-min : (n : ℕ) (l : List ℕ) → take (min n (length l)) l ≡ take n l
-take-min zero l = let none : min zero (length l) ≡ zero = omega arith in ap (λ (k : ℕ). take k l) none
-take-min (suc n) [] = take-nil (min (suc n) zero)
-take-min (suc n) (x ∷ l) =
-    let one : min (suc n) (suc (length l)) ≡ suc (min n (length l)) = omega arith in
-    ap (λ (k : ℕ). take k (x ∷ l)) one ∙ ap (λ (r : List ℕ). x ∷ r) (take-min n l)
 
 -- the bytes passed are kept, and the line's end lies in those that are left
 pub record Passed (i : Input) (line₀ chunk : List ℕ) (reader : Reader) (line : List ℕ) (at : ℕ) : Type 0 where
@@ -109,10 +102,6 @@ module _ (i : Input) (line₀ chunk : List ℕ) where
         let was = p .place in
         let to = far r false at e (ap upTo gone) (ap hasEnd gone) in
         ends-here r false at e (ap upTo gone) (ap hasEnd gone) (omega (arith, was, to))
-
--- the bytes read last are the first of the buffer, or all
-pub front-of : (i r : Input) (line line′ chunk : List ℕ) (n : ℕ) → n ≡ min (i .got) (length chunk) → Scanned i r line line′ (drop (i .at) (take n chunk)) → Scanned i r line line′ (drop (i .at) (take (i .got) chunk))
-front-of i r line line′ chunk n e s = subst (λ (l : List ℕ). Scanned i r line line′ (drop (i .at) l)) (ap (λ (k : ℕ). take k chunk) e ∙ take-min (i .got) chunk) s
 
 -- a line that was whole is left behind where the bytes are
 pub from-fresh : (i from r : Input) (line line′ chunk : List ℕ) → Fresh i from → Scanned from r line line′ (drop (from .at) (take (from .got) chunk))

@@ -2,7 +2,7 @@
 ghost use mathlib.Core.Path.{_≡_};
 ghost use mathlib.Core.Bool.{false, _&&_};
 ghost use mathlib.Core.List.{List};
-ghost use Prim.Native.Nat.{ℕ, min};
+ghost use Prim.Native.Nat.{ℕ, _≤_};
 ghost use lib.Dec.{ltb, eqb};
 ghost use lib.ListN.{length, take, drop};
 ghost use Rattle.input.specs.Input.{Scanned, Fresh, Read, Next, Begun};
@@ -78,9 +78,12 @@ fn more(i: Input, chunk: &mut [u8]) -> Input
 
 // So many bytes of a buffer, or all.
 fn front(n: usize, b: &[u8]) -> usize
-    ensures { λ r. ⌜ r ≡ min n (length (now (b .entry))) ⌝ }
+    ensures { λ r. ⌜ (r ≤ length (now (b .entry))) × (take r (now (b .entry)) ≡ take n (now (b .entry))) ⌝ }
 {
-    if n < b.len() { n } else { b.len() }
+    if n < b.len() {
+        return n;
+    }
+    b.len()
 }
 
 // The line as read so far, and where the bytes left begin.

@@ -1,6 +1,5 @@
 -- `print` is safe: the part printed lies in the buffer.
 use mathlib.Core.Path.{sym}
-use native.Mathlib.Omega.{arith}
 use lib.Seq.{length-take-le}
 use borrow.Author.Needs.{needs}
 use Rattle.input.proofs.print.Statement.{statement}
@@ -10,7 +9,7 @@ front-requires : tie.Need-front-requires
 front-requires c κs = search needs
 
 slice-aggregate-write-all : tie.Need-slice-aggregate-write-all
-slice-aggregate-write-all c = sym (length-take-le (c .before .front .result) (c .before .before .before .args .out .now) (let e = c .before .front .ensures in omega (arith, e)))
+slice-aggregate-write-all c = sym (length-take-le (c .before .front .result) (c .before .before .before .args .out .now) (c .before .front .ensures .0))
 
 write-all-requires : tie.Need-write-all-requires
 write-all-requires c κs = search needs
