@@ -1,1 +1,1 @@
--- This crate states nothing: no contract can say what is read.
+pub mod Input

@@ -3,7 +3,7 @@
 use input::Input;
 use model::Counts;
 use model::Row;
-use replaying::Stage;
+use unopened::Stage;
 
 // Where the trace stands, what is held by value, and where the input stands.
 pub struct Running {

@@ -1,19 +1,21 @@
--- Parts of what `replay` prints and keeps before a table is open: TRACE.md's "Opening".
-use mathlib.Core.List.{List, [], _∷_}
+-- How `replay` answers a line, by where the trace stands: TRACE.md's "Opening" and "Calls". "A line of another form or out of its place (an empty one, a call
+-- before `start`, a second `open`) .. prints `bad` and its number in the file, from 1, and changes nothing".
+use mathlib.Core.List.{List, []}
 use Prim.Native.Nat.{ℕ}
-use Rattle.completion.specs.declared.Refusal.the-variants.{Unfit}
-use Rattle.completion.specs.declared.Reply.the-variants.{No as turnedAway}
-use Rattle.model.specs.declared.Opening.{Opening}
-use Rattle.replytexts.specs.Replay.{replayText}
+use Rattle.lineforms.specs.Said.{saidRead}
+use Rattle.openlines.specs.Openings.{openLineRead}
+use Rattle.unopened.specs.declared.Stage.{Stage}
+use Rattle.unopened.specs.declared.Stage.the-variants.{Before, Planned, Table, Refused, Over}
+use Rattle.unopened.specs.Unopened.{Stood, atStage, told, Tells, beforeLine, plannedLine}
+use Rattle.opened.specs.Opened.{refusedLine, TableLine}
 
--- `limit`
-abbrev pub limitText : List ℕ
-limitText = 108 ∷ 105 ∷ 109 ∷ 105 ∷ 116 ∷ 10 ∷ []
+-- one line, of its bytes; "prints `limit`, and the program ends"
+unfoldable pub LineAt : Stage → List ℕ → ℕ → Stood → Stood → List ℕ → Type 0
+LineAt Before bytes n s s′ text = Tells (beforeLine (openLineRead bytes) n s) s′ text
+LineAt (Planned o) bytes n s s′ text = Tells (plannedLine (openLineRead bytes) o bytes n s) s′ text
+LineAt (Table k) bytes n s s′ text = TableLine k (saidRead bytes) n s s′ text
+LineAt Refused bytes n s s′ text = Tells (told (atStage Refused s) (refusedLine (saidRead bytes) n)) s′ text
+LineAt Over bytes n s s′ text = Tells (told (atStage Over s) []) s′ text
 
--- "`no 13` .., after which every call prints `no 13`"
-unfoldable pub noText13 : List ℕ
-noText13 = replayText (turnedAway Unfit)
-
--- "`region` stands once for each region, in the order of the handles"
-unfoldable pub withRegions : ℕ → Opening → Opening
-withRegions n o = record { block = o .block; depth = o .depth; lifetime = o .lifetime; card = o .card; buffers = o .buffers; capacity = o .capacity; «read_only» = o .«read_only»; flush = o .flush; volume = o .volume; class = o .class; label = o .label; epoch = o .epoch; regions = n }
+abbrev pub Line : List ℕ → ℕ → Stood → Stood → List ℕ → Type 0
+Line bytes n s s′ text = LineAt (s .stage) bytes n s s′ text

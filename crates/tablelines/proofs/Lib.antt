@@ -1,3 +1,2 @@
 -- Proofs about the functions of src/.
 pub mod Lines
-pub mod Places

@@ -1,11 +1,8 @@
 -- How each kind of line is answered: by what the line says, the definition computes.
 use mathlib.Core.Path.{_≡_, refl, sym, ap, _∙_, subst}
-use mathlib.Core.Bool.{Bool}
-use mathlib.Core.List.{List, [], _∷_, map}
-use Prim.Native.Nat.{ℕ, _-_, _≤_}
-use native.Mathlib.Omega.{arith}
-use lib.ListN.{length, take, length-take}
-use lib.Dec.{T}
+use mathlib.Core.List.{List, [], _∷_}
+use Prim.Native.Nat.{ℕ, _-_}
+use lib.ListN.{length, take}
 use types.Run.{OneOf, miss}
 use denote.Enum.Declared.{tagOf}
 use Rattle.model.specs.declared.Counts.{Counts}
@@ -15,8 +12,6 @@ use Rattle.model.specs.declared.Call.the-variants.{Write, ReadPage, Answer, Flu
 use Rattle.model.specs.declared.Lookup.{Lookup}
 use Rattle.model.specs.declared.Lookup.the-variants.{WritesLive}
 use Rattle.model.proofs.Call as CallType
-use Rattle.model.specs.Memory.{Lent, settingsIn, stateIn}
-use Rattle.step.specs.Sound.{Sound}
 use Rattle.called.specs.Called.{lentOf}
 use Rattle.lineforms.specs.declared.Said.{Said}
 use Rattle.lineforms.specs.declared.Said.the-variants.{Comment, Call as callSaid, Own, Count, Look, Len, Fill, Sum, Rows, Bad}
@@ -26,9 +21,8 @@ use Rattle.linecalls.specs.declared.Asks.the-variants.{Nothing, Call as calls, 
 use Rattle.linecalls.specs.declared.Named.{Named}
 use Rattle.linecalls.specs.Asks.{asksOf}
 use Rattle.texts.specs.Texts.{badText}
-use Rattle.saidtexts.specs.Listed.{generationOf, listedText}
-use Rattle.mayfill.specs.MayFill.{Open}
-use Rattle.tablelines.specs.Table.{Held, heldOf, namedIn, givenBy, Still, Ran, LooksAs, shorter, FillsIn, withPool, summed, ListsIn, Asked, Answers}
+use Rattle.hostlines.specs.Host.{FillsIn, summed, ListsIn}
+use Rattle.tablelines.specs.Table.{Held, heldOf, namedIn, givenBy, Still, Ran, LooksAs, shorter, withPool, Asked, Answers}
 
 -- of the calls only an answer gives a flush count
 abbrev others : List ℕ
@@ -45,16 +39,6 @@ none-given (SetGate h g) n w = refl
 none-given (SetReadOnly h b) n w = refl
 none-given (SetForced h b) n w = refl
 none-given (ReportPoison e) n w = refl
-
--- `rows` of an open table: its depth is at most 64
-pub lists : (c : Counts) (rows : List Row) (store free : List ℕ) (depth live : ℕ) (text : List ℕ) → length rows ≡ 64 → depth ≡ settingsIn store .depth → live ≡ c .live
-    → (depth ≤ 64 → text ≡ listedText depth live rows free) → ListsIn c rows store free text
-unfolding stateIn listedText
-lists c rows store free depth live text long d l told =
-    λ ready owners pool o.
-    let many = o .sound .rows in
-    let is = length-take (settingsIn store .depth) rows in
-    told (omega (arith, many, is, long, d)) ∙ (λ j. listedText (d j) (l j) rows free)
 
 -- `len`: the free stack without its last word
 pub looks-shorter : (c : Counts) (rows : List Row) (store free ready owners pool : List ℕ) (k : ℕ) (text : List ℕ) → k ≡ length free - 1

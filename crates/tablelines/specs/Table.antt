@@ -1,19 +1,15 @@
 -- How a line is answered once the table is open: TRACE.md's "Calls" and "Replies".
 use mathlib.Core.Path.{_≡_}
-use mathlib.Core.Bool.{Bool}
-use mathlib.Core.List.{List, [], map}
-use Prim.Native.Nat.{ℕ, _+_, _-_}
-use lib.ListN.{length, getD, take, drop}
-use Rattle.layout.specs.Pick.{pick}
+use mathlib.Core.List.{List, []}
+use Prim.Native.Nat.{ℕ, _-_}
+use lib.ListN.{length, getD, take}
 use Rattle.completion.specs.declared.Reply.{Reply}
-use Rattle.completion.specs.declared.Reply.the-variants.{Ok}
 use Rattle.model.specs.declared.Counts.{Counts}
-use Rattle.model.specs.declared.Row.{Row}
 use Rattle.model.specs.declared.Call.{Call}
 use Rattle.model.specs.declared.Call.the-variants.{Write, ReadPage, Answer, Flushed, Take, SetGate, SetReadOnly, SetForced, ReportPoison}
 use Rattle.model.specs.declared.Lookup.{Lookup}
 use Rattle.model.specs.declared.Lookup.the-variants.{WritesLive}
-use Rattle.model.specs.Memory.{Lent, settingsIn, stateIn}
+use Rattle.model.specs.Memory.{Lent}
 use Rattle.called.specs.Called.{lentOf, CallsTo, LooksTo}
 use Rattle.lineforms.specs.declared.Said.{Said}
 use Rattle.lineforms.specs.declared.Said.the-variants.{Comment, Call as callSaid, Own, Count, Look, Len, Fill, Sum, Rows, Bad}
@@ -22,10 +18,8 @@ use Rattle.linecalls.specs.declared.Asks.{Asks}
 use Rattle.linecalls.specs.declared.Asks.the-variants.{Nothing, Call as calls, Other}
 use Rattle.linecalls.specs.Asks.{asksOf}
 use Rattle.texts.specs.Texts.{badText}
-use Rattle.rowtexts.specs.Rows.{sumText, rowsText}
 use Rattle.replytexts.specs.Replay.{replayText}
-use Rattle.hostwrites.specs.Writes.{filled, sumOf, inPool, placeIn}
-use Rattle.mayfill.specs.MayFill.{mayFill, Open}
+use Rattle.hostlines.specs.Host.{FillsIn, summed, ListsIn}
 
 -- what stands between two lines: "the flush count last given, 0 at first", the counts, and what is lent
 pub record Held : Type 0 where
@@ -78,14 +72,7 @@ Looks x lent h h′ text = (h′ ≡ h) × LooksAs x (h .counts) lent text
 unfoldable pub shorter : Lent → Lent
 shorter l = record { rows = l .rows; store = l .store; free = take (length (l .free) - 1) (l .free); ready = l .ready; owners = l .owners; pool = l .pool }
 
--- `fill BUFFER AT LENGTH SEED`, which "is `bad`" where the host may not write
-pub record FillsIn (b at n seed number : ℕ) (rows : List Row) (store owners pool pool′ text : List ℕ) : Type 0 where
-  pub may : Bool
-  pub may-is : (c : Counts) (free ready : List ℕ) → Open c (lentOf rows store free ready owners pool) → may ≡ mayFill (stateIn c (lentOf rows store free ready owners pool)) b at n
-  pub pool-is : pool′ ≡ pick may (filled (placeIn (settingsIn store .capacity) b at) n seed pool) pool
-  pub prints : text ≡ pick may (replayText Ok) (badText number)
-
--- nothing else is changed
+-- `fill` (hostlines): nothing but the pool is changed
 unfoldable pub withPool : List ℕ → Held → Held
 withPool pool h =
     record {
@@ -98,17 +85,7 @@ abbrev pub Fills : ℕ → ℕ → ℕ → ℕ → ℕ → Held → Held → Lis
 Fills b at n seed number h h′ text =
     (h′ ≡ withPool (h′ .lent .pool) h) × FillsIn b at n seed number (h .lent .rows) (h .lent .store) (h .lent .owners) (h .lent .pool) (h′ .lent .pool) text
 
--- `sum BUFFER AT LENGTH`; "so is `sum` outside the pool"
-unfoldable pub summed : ℕ → ℕ → ℕ → ℕ → List ℕ → List ℕ → List ℕ
-summed b at n number store pool =
-    pick (inPool (settingsIn store .buffers) (settingsIn store .capacity) pool b at n) (sumText (sumOf (take n (drop (placeIn (settingsIn store .capacity) b at) pool)))) (badText number)
-
--- `rows`: "generations and free stack", "top of the stack first", of every open table
-abbrev pub ListsIn : Counts → List Row → List ℕ → List ℕ → List ℕ → Type 0
-ListsIn c rows store free text =
-    (ready owners pool : List ℕ) → Open c (lentOf rows store free ready owners pool)
-    → text ≡ rowsText (map (λ (r : Row). r .generation) (stateIn c (lentOf rows store free ready owners pool) .rows)) (stateIn c (lentOf rows store free ready owners pool) .free)
-
+-- `rows` (hostlines)
 abbrev pub Lists : Held → Held → List ℕ → Type 0
 Lists h h′ text = (h′ ≡ h) × ListsIn (h .counts) (h .lent .rows) (h .lent .store) (h .lent .free) text
 

@@ -1,5 +1,4 @@
 // A line of an open table is answered: the call, the lookup or what the host does, and the line that is printed.
-mod host_lines;
 mod table;
 
 use model::Counts;

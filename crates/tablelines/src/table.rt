@@ -5,7 +5,6 @@ ghost use lib.ListN.{take};
 ghost use Rattle.called.specs.Called.{lentOf};
 ghost use Rattle.tablelines.specs.Table.{heldOf, namedIn, givenBy, Ran, LooksAs, shorter, Asked, Answers};
 use crate::Answered;
-use crate::host_lines;
 use linecalls::Asks;
 use linecalls::Named;
 use lineforms::Said;
@@ -209,7 +208,7 @@ pub fn answer(
             flushes,
             counts,
             rows,
-            host_lines::fill_line(
+            hostlines::fill_line(
                 buffer,
                 at,
                 length,
@@ -226,13 +225,13 @@ pub fn answer(
             flushes,
             counts,
             rows,
-            host_lines::sum_line(buffer, at, length, number, store, pool, out),
+            hostlines::sum_line(buffer, at, length, number, store, pool, out),
         ),
         Said::Rows => still(
             flushes,
             counts,
             rows,
-            host_lines::rows_line(counts, rows, store, free, out),
+            hostlines::rows_line(counts, rows, store, free, out),
         ),
         _ => {
             let names = named(store);

@@ -9,7 +9,7 @@ front-requires : tie.Need-front-requires
 front-requires c κs = search needs
 
 slice-aggregate-write-all : tie.Need-slice-aggregate-write-all
-slice-aggregate-write-all c = sym (length-take-le (c .before .front .result) (c .before .before .before .args .out .now) (c .before .front .ensures))
+slice-aggregate-write-all c = sym (length-take-le (c .before .front .result) (c .before .before .before .args .out .now) (c .before .front .ensures .0))
 
 write-all-requires : tie.Need-write-all-requires
 write-all-requires c κs = search needs

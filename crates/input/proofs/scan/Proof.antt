@@ -3,17 +3,18 @@ use Prim.Native.Nat.{_-_}
 use native.Mathlib.Omega.{arith}
 use borrow.Author.Needs.{needs}
 use lib.ListN.{length}
+use Rattle.input.proofs.Cut.{Passed, none-passed, one-passed, found, through}
 use Rattle.input.proofs.scan.Statement.{statement}
 use Rattle.input.proofs.scan.Tie as tie
 
 abbrev Inv-loop : tie.InvT-loop
-Inv-loop i line₀ chunk reader₀ at₀ line reader at = Unit {0}
+Inv-loop i line₀ chunk reader₀ at₀ line reader at = Passed i line₀ chunk reader line at
 
 abbrev μ-loop : tie.MeasureT-loop
 μ-loop i line₀ chunk reader₀ at₀ line reader at = length chunk - at
 
 loop-holds : tie.Need-loop-holds Inv-loop μ-loop
-loop-holds c = tt
+loop-holds c = none-passed _ _ _
 
 shared-slice-read-if1 : tie.Need-shared-slice-read-if1 Inv-loop μ-loop
 shared-slice-read-if1 c = omega arith
@@ -25,7 +26,10 @@ read-to-requires : tie.Need-read-to-requires Inv-loop μ-loop
 read-to-requires c κs = search needs
 
 returns : tie.Need-returns Inv-loop μ-loop
-returns c = tt
+returns c =
+    let at-loop = c .before .before .before .before in
+    let a = at-loop .before .before .before .args in
+    found (a .i) (a .line .now) (a .chunk .now) _ _ _ (at-loop .loop .inv) _ (omega arith) (c .before .if1 .taken) (c .read-to .ensures)
 
 shared-slice-read-feed : tie.Need-shared-slice-read-feed Inv-loop μ-loop
 shared-slice-read-feed c = omega arith
@@ -40,13 +44,19 @@ loop-less : tie.Need-loop-less Inv-loop μ-loop
 loop-less c = omega arith
 
 loop-again : tie.Need-loop-again Inv-loop μ-loop
-loop-again c = tt
+loop-again c =
+    let at-loop = c .before .before .before .before .before .before in
+    let a = at-loop .before .before .before .args in
+    one-passed (a .i) (a .line .now) (a .chunk .now) _ _ _ (at-loop .loop .inv) (omega arith) (c .before .before .before .if1 .left) _ _ (c .feed .ensures)
 
 read-to-requires-2 : tie.Need-read-to-requires-2 Inv-loop μ-loop
 read-to-requires-2 c κs = search needs
 
 returns-2 : tie.Need-returns-2 Inv-loop μ-loop
-returns-2 c = tt
+returns-2 c =
+    let at-loop = c .before .before in
+    let a = at-loop .before .before .before .args in
+    through (a .i) (a .line .now) (a .chunk .now) _ _ _ (at-loop .loop .inv) _ (omega arith) (c .read-to2 .ensures)
 
 pub scan-spec : {M : Type 1} → statement M
 scan-spec =

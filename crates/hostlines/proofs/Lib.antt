@@ -1,0 +1,3 @@
+-- Proofs about the functions of src/.
+pub mod Listed
+pub mod Places

@@ -1,0 +1,25 @@
+-- `hostlines::rows_line` meets its contract: an open table has at most 64 rows (Listed).
+use mathlib.Core.Path.{_≡_, refl, _∙_}
+use native.Mathlib.Omega.{arith}
+use lib.ListN.{length}
+use Rattle.model.specs.Memory.{settingsIn}
+use Rattle.hostlines.proofs.Listed.{lists}
+use borrow.Author.Needs.{needs}
+use Rattle.hostlines.proofs.rows_line.Statement.{statement}
+use Rattle.hostlines.proofs.rows_line.Tie as tie
+
+word-requires : tie.Need-word-requires
+word-requires c κs = search needs
+
+say-rows-requires : tie.Need-say-rows-requires
+say-rows-requires c κs = search needs
+
+returns : tie.Need-returns
+unfolding settingsIn
+returns c =
+    let a = c .before .before .before .before .before .args in
+    let long : length (a .rows) ≡ 64 = omega arith in
+    (c .say-rows .ensures .0, lists (a .counts) (a .rows) (a .store .now) (a .free .now) _ _ _ long (c .before .before .word .ensures) refl (c .say-rows .ensures .1))
+
+pub rows-line-spec : {M : Type 1} → statement M
+rows-line-spec = tie.close (tie.spec word-requires say-rows-requires returns)

@@ -1,0 +1,3 @@
+-- Proofs about the functions of src/, and the laws.
+pub mod Cut
+pub mod Laws

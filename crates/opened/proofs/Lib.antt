@@ -1,0 +1,3 @@
+-- Proofs about the functions of src/.
+pub mod Refusals
+pub mod Parts

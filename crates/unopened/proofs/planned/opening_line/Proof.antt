@@ -1,0 +1,55 @@
+-- `unopened::opening_line` meets its contract: each arm knows what the line says (PlannedLines).
+use mathlib.Core.Path.{sym, _∙_}
+use native.Mathlib.Omega.{arith}
+use borrow.Author.Needs.{needs}
+use Rattle.unopened.proofs.PlannedLines.{comment-planned, region-planned, bad-planned, region-short}
+use Rattle.unopened.proofs.planned.opening_line.Statement.{statement}
+use Rattle.unopened.proofs.planned.opening_line.Tie as tie
+
+enum-told : tie.Need-enum-told
+enum-told c = search needs
+
+enum-told-2 : tie.Need-enum-told-2
+enum-told-2 c = search needs
+
+add-kept-requires : tie.Need-add-kept-requires
+add-kept-requires c κs = search needs
+
+with-regions-requires : tie.Need-with-regions-requires
+with-regions-requires c κs = search needs
+
+say-bad-requires : tie.Need-say-bad-requires
+say-bad-requires c κs = search needs
+
+returns : tie.Need-returns
+returns c =
+    let a = c .before .before .args in
+    (omega arith, λ bytes k read h flushes counts lent. comment-planned (a .o) bytes (a .number) (a .plan .now) flushes counts lent _ (c .enum-told .given .1))
+
+returns-2 : tie.Need-returns-2
+returns-2 c =
+    let a = c .before .before .before .before .before .args in
+    let told = c .before .before .before .enum-told2 .given .1 in (
+      omega arith,
+      λ bytes k read h flushes counts lent.
+          let added = c .before .add-kept .ensures bytes k (region-short bytes (sym told ∙ read)) in
+          region-planned (a .o) bytes (a .number) (a .plan .now) flushes counts lent _ told _ (added .0) _ (c .with-regions .ensures) _ (added .1),
+    )
+
+returns-3 : tie.Need-returns-3
+returns-3 c =
+    let a = c .before .before .before .args in
+    (c .say-bad .ensures .0, λ bytes k read h flushes counts lent. bad-planned (a .o) bytes (a .number) (a .plan .now) flushes counts lent _ (c .before .before .match .keys3) h _ (c .say-bad .ensures .1))
+
+pub opening-line-spec : {M : Type 1} → statement M
+opening-line-spec =
+    tie.close
+    (tie.spec
+    enum-told
+    enum-told-2
+    add-kept-requires
+    with-regions-requires
+    say-bad-requires
+    returns
+    returns-2
+    returns-3)
