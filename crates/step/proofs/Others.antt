@@ -12,6 +12,7 @@ use lib.ListN.{length, getD, length-append}
 use lib.Seq.{getD-set-same, getD-set-other}
 use Rattle.layout.specs.Pick.{pick}
 use Rattle.layout.proofs.Tests.{not-both, or-first, or-second}
+use Rattle.regionmap.specs.declared.Position.{Position}
 use Rattle.domain.specs.declared.FirstCause.{FirstCause}
 use Rattle.domain.specs.declared.Poisoned.{Poisoned}
 use Rattle.domain.specs.declared.Poisoned.the-variants.{Never, First}
@@ -23,6 +24,10 @@ use Rattle.completion.specs.declared.Refusal.the-variants.{Unfit}
 use Rattle.completion.specs.declared.Reply.{Reply}
 use Rattle.completion.specs.declared.Reply.the-variants.{No as turnedAway, Done, Took, Ok, Writes, Mark}
 use Rattle.model.specs.declared.Lengths.{Lengths}
+use Rattle.model.specs.declared.Kind.the-variants.{Page, Read}
+use Rattle.model.specs.declared.Split.{Split}
+use Rattle.model.specs.declared.Awaits.{Awaits}
+use Rattle.model.specs.declared.Awaits.the-variants.{Nothing, Piece, Flush}
 use Rattle.model.specs.declared.Row.{Row}
 use Rattle.model.specs.declared.Call.{Call}
 use Rattle.model.specs.declared.Call.the-variants.{Take, SetGate, SetReadOnly, SetForced, ReportPoison}
@@ -39,6 +44,7 @@ use Rattle.step.specs.Lists.{broughtBy, brought}
 use Rattle.step.specs.Others.{MarksSet, OtherLaws}
 use Rattle.step.proofs.Picked.{by-pick}
 use Rattle.step.proofs.Named.{live-one, live-below}
+use Rattle.step.proofs.AloneTags.{clash}
 use Rattle.step.proofs.Freed.{some-live}
 use Rattle.step.proofs.QueueOrder.{none-live}
 use Rattle.step.proofs.ProjectionHost.{live-in-table}
@@ -113,16 +119,23 @@ module _ (s : State) (l : Lengths) (same : eqLengths l (s .lengths) ≡ true) wh
 
 -- ---- the lookups
 
-some-write : (rows : List Row) (r : ℕ) → writesIn (getD rows r (freed 0) .awaits) ≡ true → anyWrites rows ≡ true
+some-write : (rows : List Row) (r : ℕ) (a b : Position) (sp : Split) → getD rows r (freed 0) .awaits ≡ Piece (Page a b) sp → anyWrites rows ≡ true
 unfolding anyWrites writesIn freed
-some-write [] r e = absurd (not-both e refl)
-some-write (x ∷ xs) zero e = or-first (writesIn (x .awaits)) (anyWrites xs) e
-some-write (x ∷ xs) (suc r) e = or-second (writesIn (x .awaits)) (anyWrites xs) (some-write xs r e)
+some-write [] r a b sp e = clash (cc)
+some-write (x ∷ xs) zero a b sp e = or-first (writesIn (x .awaits)) (anyWrites xs) (ap writesIn e)
+some-write (x ∷ xs) (suc r) a b sp e = or-second (writesIn (x .awaits)) (anyWrites xs) (some-write xs r a b sp e)
 
-no-write : (rows : List Row) → ((r : ℕ) → writesIn (getD rows r (freed 0) .awaits) ≡ false) → anyWrites rows ≡ false
+not-written : (w : Awaits) → ((a b : Position) (sp : Split) → w ≡ Piece (Page a b) sp → ⊥) → writesIn w ≡ false
+unfolding writesIn
+not-written Nothing n = refl
+not-written (Piece (Page a b) sp) n = absurd (n a b sp refl)
+not-written (Piece (Read a b) sp) n = refl
+not-written (Flush t) n = refl
+
+no-write : (rows : List Row) → ((r : ℕ) (a b : Position) (sp : Split) → getD rows r (freed 0) .awaits ≡ Piece (Page a b) sp → ⊥) → anyWrites rows ≡ false
 unfolding anyWrites
 no-write [] h = refl
-no-write (x ∷ xs) h = ap (λ (b : Bool). b || anyWrites xs) (h 0) ∙ no-write xs (λ r. h (suc r))
+no-write (x ∷ xs) h = ap (λ (b : Bool). b || anyWrites xs) (not-written (x .awaits) (h 0)) ∙ no-write xs (λ r. h (suc r))
 
 -- the oldest is at most each live row's number, and no less than what is at most each
 oldest-most : (n : ℕ) (rows : List Row) (r : ℕ) → isLive (getD rows r (freed 0) .awaits) ≡ true → oldest n rows ≤ getD rows r (freed 0) .seq
@@ -165,7 +178,7 @@ other-laws = record {
   sets-read-only = λ s l h x sound same known. sets s l same (SetReadOnly h x) h (withReadOnly (regionAt s h) x) sound known refl refl;
   sets-forced = λ s l h x sound same known. sets s l same (SetForced h x) h (withForced (regionAt s h) x) sound known refl refl;
   reports = λ s l cause same e. reports s l same cause e;
-  writes = λ s l r same e. looked s l same WritesLive ∙ ap Writes (some-write (s .rows) r e);
+  writes = λ s l r a b sp same e. looked s l same WritesLive ∙ ap Writes (some-write (s .rows) r a b sp e);
   no-writes = λ s l same h. looked s l same WritesLive ∙ ap Writes (no-write (s .rows) h);
   mark = mark;
   mark-none = mark-none;

@@ -7,6 +7,7 @@ use mathlib.Core.Option.{some}
 use mathlib.Core.List.{List, [], _∷_}
 use Prim.Native.Nat.{ℕ, _+_, _*_, _≤_, _<_}
 use lib.ListN.{length, getD}
+use Rattle.regionmap.specs.declared.Position.{Position}
 use Rattle.domain.specs.declared.FirstCause.{FirstCause}
 use Rattle.domain.specs.declared.Poisoned.the-variants.{Never, First}
 use Rattle.completion.specs.declared.Buffer.the-variants.{Back}
@@ -14,6 +15,9 @@ use Rattle.completion.specs.declared.Completion.{Completion}
 use Rattle.completion.specs.declared.Reply.the-variants.{Done, Took, None as noneReady, Ok, Writes, Mark}
 use Rattle.model.specs.declared.Lengths.{Lengths}
 use Rattle.model.specs.declared.Gate.{Gate}
+use Rattle.model.specs.declared.Kind.the-variants.{Page}
+use Rattle.model.specs.declared.Split.{Split}
+use Rattle.model.specs.declared.Awaits.the-variants.{Piece}
 use Rattle.model.specs.declared.Request.{Request}
 use Rattle.model.specs.declared.Call.{Call}
 use Rattle.model.specs.declared.Call.the-variants.{Write, ReadPage, Take, SetGate, SetReadOnly, SetForced, ReportPoison}
@@ -21,7 +25,7 @@ use Rattle.model.specs.declared.Lookup.the-variants.{WritesLive, Mark as MarkNo
 use Rattle.model.specs.State.{Owner.host, Owner.lost, State}
 use Rattle.step.specs.Questions.{regionAt, heldAt}
 use Rattle.step.specs.Rules.{Input}
-use Rattle.step.specs.Step.{rowAt, bytesAt, isLive, writesIn, withRegions, withPoison, step, look, eqLengths}
+use Rattle.step.specs.Step.{rowAt, bytesAt, isLive, withRegions, withPoison, step, look, eqLengths}
 use Rattle.step.specs.Sound.{Sound}
 use Rattle.step.specs.Laws.{Event, run, Pools}
 use Rattle.step.specs.Lists.{broughtBy, isAway}
@@ -58,8 +62,8 @@ pub record OtherLaws : Type 0 where
   -- "report poison with a cause (the first is kept)": the first; that a later one changes nothing is StepLaws' first-kept
   pub reports : (s : State) (l : Lengths) (cause : FirstCause) → eqLengths l (s .lengths) ≡ true → s .poison ≡ Never → step s l (ReportPoison cause) ≡ (withPoison s (First cause), Ok)
   -- "whether a write still awaits a piece"
-  pub writes : (s : State) (l : Lengths) (r : ℕ) → eqLengths l (s .lengths) ≡ true → writesIn (rowAt s r .awaits) ≡ true → look s l WritesLive ≡ Writes true
-  pub no-writes : (s : State) (l : Lengths) → eqLengths l (s .lengths) ≡ true → ((r : ℕ) → writesIn (rowAt s r .awaits) ≡ false) → look s l WritesLive ≡ Writes false
+  pub writes : (s : State) (l : Lengths) (r : ℕ) (a b : Position) (sp : Split) → eqLengths l (s .lengths) ≡ true → rowAt s r .awaits ≡ Piece (Page a b) sp → look s l WritesLive ≡ Writes true
+  pub no-writes : (s : State) (l : Lengths) → eqLengths l (s .lengths) ≡ true → ((r : ℕ) (a b : Position) (sp : Split) → rowAt s r .awaits ≡ Piece (Page a b) sp → ⊥) → look s l WritesLive ≡ Writes false
   -- "the mark, 2 × the oldest live sequence number + 1, or 2 × the next if none is live"
   pub mark : (s : State) (l : Lengths) (r : ℕ) → Sound s → eqLengths l (s .lengths) ≡ true → isLive (rowAt s r .awaits) ≡ true
       → ((k : ℕ) → isLive (rowAt s k .awaits) ≡ true → rowAt s r .seq ≤ rowAt s k .seq) → look s l MarkNow ≡ Mark (2 * rowAt s r .seq + 1)
