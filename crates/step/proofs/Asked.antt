@@ -19,7 +19,7 @@ use Rattle.completion.specs.declared.Completion.{Completion}
 use Rattle.completion.specs.declared.Context.the-variants.{None as bare}
 use Rattle.completion.specs.declared.Refusal.the-variants.{ForeignPosition, Unfit, UnknownTag, NotAwaited, AbovePiece}
 use Rattle.completion.specs.declared.Reply.{Reply}
-use Rattle.completion.specs.declared.Reply.the-variants.{No as turnedAway, Done, Ok}
+use Rattle.completion.specs.declared.Reply.the-variants.{No as turnedAway, Done}
 use Rattle.completion.specs.Numbers.{number}
 use Rattle.model.specs.declared.Opening.{Opening}
 use Rattle.model.specs.declared.Lengths.{Lengths}
@@ -38,7 +38,7 @@ use Rattle.model.specs.State.{State, Region, freed}
 use Rattle.model.specs.Opening.{Plan, among}
 use Rattle.step.specs.Questions.{ask, firstNo, regionAt, writeQuestions, readQuestions}
 use Rattle.step.specs.Rules.{firstOf, errorOf, bufferAs, splitAfter, pieceLength, abovePiece, firstRefused, goesOn, isWritten, writtenAs, lastPiece, pieceAnswered, answerRules, flushRules, flushEnds, rules, Input, Input.answered, Input.flushed, Fate, Fate.away, Fate.awaits, Fate.ends, Fate.rejected}
-use Rattle.step.specs.Step.{startOf, endOf, topOf, verdictOf, writeVerdict, readVerdict, accepted, submitted, rowAt, rowOf, isLive, names, bytesAt, awaitsNow, going, freeing, planOf, asksFor, rejection, settled, fateOf, underTag, taken, withRegions, marked, eqLengths, called, step}
+use Rattle.step.specs.Step.{startOf, endOf, topOf, verdictOf, writeVerdict, readVerdict, accepted, submitted, rowAt, rowOf, isLive, names, bytesAt, awaitsNow, going, freeing, planOf, asksFor, rejection, settled, fateOf, underTag, taken, marked, eqLengths, called, step}
 use Rattle.step.specs.Laws.{SaysEach}
 use Rattle.step.specs.Asked.{awaitsPiece, atMostPiece, answerQuestions, awaitsFlush, flushQuestions, setsMark, firstReply, askedBy, AskedLaws}
 use Rattle.step.proofs.Picked.{by-pick}
@@ -180,11 +180,11 @@ module _ (s : State) (l : Lengths) (same : eqLengths l (s .lengths) ≡ true) wh
 
   marked-asked : (h : ℕ) (g : Region) → askedBy (marked s h g .1) ≡ ask (ltb h (s .settings .regions)) (ForeignPosition bare)
   unfolding marked pick ask askedBy
-  marked-asked h g = by-known (ltb h (s .settings .regions))
+  marked-asked h g = by-known (ltb h (s .settings .regions)) _ refl
     where
-      by-known : (b : Bool) → askedBy (pick {A = State × Reply} b (withRegions s (set (s .regions) h g), Ok) (s, turnedAway (ForeignPosition bare)) .1) ≡ ask b (ForeignPosition bare)
-      by-known true = refl
-      by-known false = refl
+      by-known : (b : Bool) (z : State × Reply) → askedBy (z .1) ≡ Yes → askedBy (pick b z (s, turnedAway (ForeignPosition bare)) .1) ≡ ask b (ForeignPosition bare)
+      by-known true z said = said
+      by-known false z said = refl
 
   taken-asked : (cs : List Completion) → askedBy (taken s cs .1) ≡ Yes
   unfolding taken askedBy

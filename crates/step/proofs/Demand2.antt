@@ -1,6 +1,7 @@
--- Demand 2, by POSIX: an accepted page operation whose pieces are taken whole acts like one transfer, whatever other calls come between, and no answer touches
--- another byte of card or pool.
+-- Demand 2, by POSIX: an accepted page operation whose pieces are taken whole acts like one transfer, whatever other calls come between; as long as it is open
+-- the last reply under its queue tag asks for what its row awaits; and no answer touches another byte of card or pool.
 use mathlib.Core.Path.{_≡_, refl, sym, _∙_, subst}
+use mathlib.Core.Logic.{_⊎_, inl, inr}
 use mathlib.Core.Bool.{true, false}
 use mathlib.Core.Option.{some}
 use mathlib.Core.List.{List, [], _∷_, _++_}
@@ -19,12 +20,14 @@ use Rattle.model.specs.declared.Call.the-variants.{Write, ReadPage}
 use Rattle.model.specs.State.{State}
 use Rattle.step.specs.Questions.{regionAt}
 use Rattle.step.specs.Rules.{firstOf, lastOf}
-use Rattle.step.specs.Step.{startOf, endOf}
-use Rattle.step.specs.Laws.{Made, Made.calls, Event, leave, done, replyTo}
+use Rattle.step.specs.Step.{startOf, endOf, rowOf, rowAt, names}
+use Rattle.step.specs.Laws.{Made, Made.calls, Event, leave, done, run, replyTo}
 use Rattle.step.specs.Lists.{Completed, Hosted}
 use Rattle.step.specs.Alone.{tagGiven}
 use Rattle.step.specs.Demand3.{Start, openedBy, after}
-use Rattle.step.specs.Demand2.{Served, Accepted, bufferThen, submittedIn, givenTo, answersIn, getsIn, Issues, Wrote, DidRead, Followed, AllWhole, isKept, Demand2}
+use Rattle.step.specs.Demand2.{Served, Accepted, bufferThen, submittedIn, givenTo, answersIn, getsIn, Issues, Wrote, DidRead, Followed, AllWhole, isKept, lastReply, asksUnder, Demand2}
+use Rattle.step.proofs.Histories.{keeps-next}
+use Rattle.step.proofs.Laws.{keeps}
 use Rattle.step.proofs.Demand2Others.{card-others, pool-others}
 use Rattle.step.proofs.Demand2Bytes.{gathered-length, gathered-at}
 use Rattle.step.proofs.Demand2Fate.{pages}
@@ -33,6 +36,7 @@ use Rattle.step.proofs.Demand2Kept.{stage-writes, kept-from, all-answer
 use Rattle.step.proofs.Demand2Walk.{Along, walk}
 use Rattle.step.proofs.Demand2Ends.{stands, awaited, ends, not-before}
 use Rattle.step.proofs.Demand2Begun.{Begun, begun-write, begun-read, before, may, then-length, task, opens}
+use Rattle.step.proofs.Demand2Asked.{asked-from, first-asks}
 
 -- an accepted submission of a kind, with the bytes that its range is to end with
 module _ (x : Start) (h : List Event) (e : Event) (t : ℕ) (q : Request) (hosted : Hosted (openedBy x) (h ++ (e ∷ []))) (k : Kind)
@@ -105,5 +109,20 @@ module _ (x : Start) (h : List Event) (e : Event) (t : ℕ) (q : Request) where
       let z = kept-from t (q .buffer) c bytes more ok es (submittedIn x h e) (o .sound) (stage-writes _ 0 0 _ refl (o .in-row .stage)) followed got in
       (z .0, all-answered _ (submittedIn x h e) (o .in-row) (o .map-is) (answersIn (givenTo x h e t es)) (z .1))
 
+  asked-by : (k : Kind) → Hosted (openedBy x) (h ++ (e ∷ [])) → Begun s₁ q k t (done s₁ (e .lengths) (e .made)) → (es : List Event) → Followed (submittedIn x h e) es t
+      → names (rowAt (run (submittedIn x h e) es) (rowOf t)) t ≡ true → lastReply (submittedIn x h e) es t (replyTo (after x h) e) ≡ asksUnder (run (submittedIn x h e) es) t
+  asked-by k hosted g es followed live =
+      let b = before x h e hosted in
+      let host = may x h e hosted in
+      asked-from t es (submittedIn x h e) (keeps-next keeps (after x h) e (b .sound) (host .count)) followed live (replyTo (after x h) e) (first-asks x (after x h) (b .sound) (b .fixed) e host q k t g)
+
+  asked : (made : Made) → (made ≡ calls (Write q)) ⊎ (made ≡ calls (ReadPage q)) → Accepted x h e t q made → (es : List Event) → Followed (submittedIn x h e) es t
+      → names (rowAt (run (submittedIn x h e) es) (rowOf t)) t ≡ true → lastReply (submittedIn x h e) es t (replyTo (after x h) e) ≡ asksUnder (run (submittedIn x h e) es) t
+  unfolding replyTo
+  asked made (inl w) a = asked-by _ (a .hosted)
+      (subst (λ (n : Made). tagGiven (done s₁ (e .lengths) n .1) ≡ some t → Begun s₁ q (Page (startOf q) (endOf q)) t (done s₁ (e .lengths) n)) (sym (a .made-so ∙ w)) (begun-write s₁ q t (e .lengths)) (a .tag))
+  asked made (inr r) a = asked-by _ (a .hosted)
+      (subst (λ (n : Made). tagGiven (done s₁ (e .lengths) n .1) ≡ some t → Begun s₁ q (Read (startOf q) (endOf q)) t (done s₁ (e .lengths) n)) (sym (a .made-so ∙ r)) (begun-read s₁ q t (e .lengths)) (a .tag))
+
 pub demand2 : Demand2
-demand2 = record { write = write; read = read; kept = kept; card-others = card-others; pool-others = pool-others }
+demand2 = record { write = write; read = read; kept = kept; asked = asked; card-others = card-others; pool-others = pool-others }

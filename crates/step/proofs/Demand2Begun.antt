@@ -9,10 +9,12 @@ use native.Mathlib.Omega.{arith}
 use lib.ListN.{length, take, drop, getD, take-append-drop}
 use lib.Seq.{length-take-le, getD-set-same}
 use Rattle.layout.proofs.Tests.{not-both}
+use Rattle.regionmap.specs.declared.Position.{Position}
 use Rattle.regionmap.specs.Map.{Map, place}
 use Rattle.iobuf.specs.Turn.{stretch}
 use Rattle.posix.specs.Posix.{Card}
 use Rattle.completion.specs.declared.Reply.{Reply}
+use Rattle.completion.specs.declared.Reply.the-variants.{Piece}
 use Rattle.model.specs.declared.Opening.{Opening}
 use Rattle.model.specs.declared.Kind.{Kind}
 use Rattle.model.specs.declared.Kind.the-variants.{Page, Read}
@@ -25,11 +27,12 @@ use Rattle.model.specs.declared.Call.the-variants.{Write, ReadPage}
 use Rattle.model.specs.State.{State, freed}
 use Rattle.model.specs.Opening.{Plan}
 use Rattle.step.specs.Questions.{regionAt}
-use Rattle.step.specs.Rules.{firstOf, lastOf}
-use Rattle.step.specs.Step.{startOf, endOf, durableAs, queueTag, topOf, rowAt, rowOf, generationOf, isLive, bytesAt, planOf, claimedBy, accepted, submitted, verdictOf, writeVerdict, readVerdict, called, eqLengths, step}
+use Rattle.step.specs.Rules.{firstOf, lastOf, pieceOf, pieceLength}
+use Rattle.step.specs.Step.{startOf, endOf, begun, durableAs, queueTag, topOf, rowAt, rowOf, generationOf, isLive, bytesAt, planOf, asksFor, claimedBy, accepted, submitted, verdictOf, writeVerdict, readVerdict, called, eqLengths, step}
 use Rattle.step.specs.Sound.{Sound}
 use Rattle.step.specs.Laws.{Made.calls, Event, leave, done, next, run}
 use Rattle.step.specs.Lists.{HostMay, Hosted}
+use Rattle.step.specs.Asked.{firstReply}
 use Rattle.step.specs.Alone.{tagGiven}
 use Rattle.step.specs.Demand3.{Start, openedBy, after, alonesAfter}
 use Rattle.step.specs.Demand2.{bufferThen}
@@ -52,23 +55,24 @@ use Rattle.step.proofs.Demand2Task.{Task, hostsOf, Stage.piece, InRow, 
 pub record Begun (s : State) (q : Request) (k : Kind) (t : ℕ) (z : State × Reply) : Type 0 where
   pub passed : Passed s q
   pub state : z .0 ≡ accepted s (topOf (s .free)) k q
+  pub reply : z .1 ≡ firstReply s k q
   pub tag : queueTag (topOf (s .free)) (rowAt s (topOf (s .free)) .generation) ≡ t
 
 module _ (s : State) (q : Request) (t : ℕ) where
-  begun-by : (k : Kind) (a : Asked) → (a ≡ Yes → Passed s q) → tagGiven (submitted s q (verdictOf a s k q) .1) ≡ some t → Begun s q k t (submitted s q (verdictOf a s k q))
-  unfolding submitted verdictOf tagGiven
-  begun-by k (No f) passes e = clash (cc)
-  begun-by k Yes passes e = record { passed = passes refl; state = refl; tag = cc }
+  begun-by : (k : Kind) → firstOf k ≡ q .offset → (a : Asked) → (a ≡ Yes → Passed s q) → tagGiven (submitted s q (verdictOf a s k q) .1) ≡ some t → Begun s q k t (submitted s q (verdictOf a s k q))
+  unfolding submitted verdictOf tagGiven firstReply asksFor planOf pieceLength
+  begun-by k first (No f) passes e = clash (cc)
+  begun-by k first Yes passes e = record { passed = passes refl; state = refl; reply = ap (λ (p : Position). let f = pieceOf (regionAt s (q .handle) .map) (p .0) (begun (q .length)) in Piece (queueTag (topOf (s .free)) (rowAt s (topOf (s .free)) .generation)) (f .offset) (f .count) (q .buffer)) (sym first); tag = cc }
 
   pub begun-write : (l : Lengths) → tagGiven (done s l (calls (Write q)) .1) ≡ some t → Begun s q (Page (startOf q) (endOf q)) t (done s l (calls (Write q)))
-  unfolding done step called writeVerdict tagGiven
+  unfolding done step called writeVerdict tagGiven firstOf
   begun-write l =
-      by-pick (eqLengths l (s .lengths)) (λ (z : State × Reply). tagGiven (z .1) ≡ some t → Begun s q (Page (startOf q) (endOf q)) t z) (λ same. begun-by _ _ (write-passed s q)) (λ other e. clash (cc))
+      by-pick (eqLengths l (s .lengths)) (λ (z : State × Reply). tagGiven (z .1) ≡ some t → Begun s q (Page (startOf q) (endOf q)) t z) (λ same. begun-by _ refl _ (write-passed s q)) (λ other e. clash (cc))
 
   pub begun-read : (l : Lengths) → tagGiven (done s l (calls (ReadPage q)) .1) ≡ some t → Begun s q (Read (startOf q) (endOf q)) t (done s l (calls (ReadPage q)))
-  unfolding done step called readVerdict tagGiven
+  unfolding done step called readVerdict tagGiven firstOf
   begun-read l =
-      by-pick (eqLengths l (s .lengths)) (λ (z : State × Reply). tagGiven (z .1) ≡ some t → Begun s q (Read (startOf q) (endOf q)) t z) (λ same. begun-by _ _ (read-passed s q)) (λ other e. clash (cc))
+      by-pick (eqLengths l (s .lengths)) (λ (z : State × Reply). tagGiven (z .1) ≡ some t → Begun s q (Read (startOf q) (endOf q)) t z) (λ same. begun-by _ refl _ (read-passed s q)) (λ other e. clash (cc))
 
 -- ---- the history before it
 
@@ -128,6 +132,19 @@ module _ (x : Start) (s : State) (sound : Sound s) (fixed : Fixed x s) (e : Even
   pub in-capacity : (j : ℕ) → j < q .length → q .offset .0 + j < m .capacity
   in-capacity j l = let w = sound .each (q .handle) region .lawful .within in let d = in-data in omega (arith, d, w, l)
 
+  small : top < 2 ^ 32
+  small = small-row s₁ sound₁ top (top-row s₁ sound₁ (g .passed .room))
+
+  next-is : next s e ≡ accepted s₁ top k q
+  unfolding next
+  next-is = g .state
+
+  pub row-is : rowAt (next s e) (rowOf t) ≡ claimedBy (rowAt s₁ top .generation) (s₁ .counts .submissions) k q
+  unfolding rowAt accepted
+  row-is =
+      (λ j. rowAt (next-is j) ((ap rowOf (sym (g .tag)) ∙ row-of-tag top (rowAt s₁ top .generation) small) j))
+      ∙ getD-set-same (s₁ .rows) top (claimedBy (rowAt s₁ top .generation) (s₁ .counts .submissions) k q) (freed 0) (let lt = top-row s₁ sound₁ (g .passed .room) in let rows = sound₁ .rows in omega (arith, lt, rows))
+
   module _ (first : firstOf k ≡ q .offset) (last : lastOf k .0 ≡ q .offset .0 + q .length) (new : List ℕ) (long : length new ≡ q .length) (of-write : pages k ≡ true → new ≡ take (q .length) then) where
     abbrev pub task : Task
     task = record {
@@ -149,19 +166,6 @@ module _ (x : Start) (s : State) (sound : Sound s) (fixed : Fixed x s) (e : Even
       in-data = in-data;
       distinct = λ i j li lj same. add-left-cancel (q .offset .0) (sound .apart (q .handle) (q .handle) (q .offset .0 + i) (q .offset .0 + j) region region (in-capacity i li) (in-capacity j lj) same .1);
     }
-
-    small : top < 2 ^ 32
-    small = small-row s₁ sound₁ top (top-row s₁ sound₁ (g .passed .room))
-
-    next-is : next s e ≡ accepted s₁ top k q
-    unfolding next
-    next-is = g .state
-
-    row-is : rowAt (next s e) (rowOf t) ≡ claimedBy (rowAt s₁ top .generation) (s₁ .counts .submissions) k q
-    unfolding rowAt accepted
-    row-is =
-        (λ j. rowAt (next-is j) ((ap rowOf (sym (g .tag)) ∙ row-of-tag top (rowAt s₁ top .generation) small) j))
-        ∙ getD-set-same (s₁ .rows) top (claimedBy (rowAt s₁ top .generation) (s₁ .counts .submissions) k q) (freed 0) (let lt = top-row s₁ sound₁ (g .passed .room) in let rows = sound₁ .rows in omega (arith, lt, rows))
 
     in-row : InRow task (claimedBy (rowAt s₁ top .generation) (s₁ .counts .submissions) k q) 0 0
     unfolding claimedBy isLive

@@ -161,15 +161,15 @@ module _ (s : State) (sound : Sound s) (t : ℕ) (named : names (rowAt s (rowOf 
       by-pick (names row u) SameRow (λ here. settled-row u (other-row u n here) (fateOf s row i)) (λ unnamed. refl)
 
   -- the row that a submission takes is free
+  pub not-top : (q : Request) → Passed s q → rowOf t ≢ topOf (s .free)
+  not-top q passed e =
+      let live = live-one (rowAt s (rowOf t) .awaits) (names-live (rowAt s (rowOf t)) t named) in
+      omega (arith, subst (λ (r : ℕ). awaiting (rowAt s r .awaits) ≡ 1) e live, awaits-nothing s sound (passed .room))
+
   submitted-row : (q : Request) (k : Kind) (a : Asked) → (a ≡ Yes → Passed s q) → SameRow (submitted s q (verdictOf a s k q))
   unfolding submitted verdictOf accepted rowAt
   submitted-row q k (No f) passes = refl
-  submitted-row q k Yes passes = getD-set-other (s .rows) (topOf (s .free)) (rowOf t) _ (freed 0) not-top
-    where
-      not-top : rowOf t ≢ topOf (s .free)
-      not-top e =
-          let live = live-one (rowAt s (rowOf t) .awaits) (names-live (rowAt s (rowOf t)) t named) in
-          omega (arith, subst (λ (r : ℕ). awaiting (rowAt s r .awaits) ≡ 1) e live, awaits-nothing s sound (passes refl .room))
+  submitted-row q k Yes passes = getD-set-other (s .rows) (topOf (s .free)) (rowOf t) _ (freed 0) (not-top q (passes refl))
 
   taken-row : (l : List Completion) → SameRow (taken s l)
   unfolding taken rowAt
@@ -181,7 +181,7 @@ module _ (s : State) (sound : Sound s) (t : ℕ) (named : names (rowAt s (rowOf 
   marked-row h g = by-pick (ltb h (s .settings .regions)) SameRow (λ known. refl) (λ unknown. refl)
 
   -- nothing is brought to the tag
-  kept-out : {A : Type 0} (u : ℕ) (y : A) → pick (eqb u t) (some y) none ≡ none → u ≢ t
+  pub kept-out : {A : Type 0} (u : ℕ) (y : A) → pick (eqb u t) (some y) none ≡ none → u ≢ t
   unfolding pick
   kept-out u y e same = clash (let z : some y ≡ none = (rw (eq-eqb u t same) at e) in cc)
 

@@ -56,6 +56,7 @@ pub mod Demand2Kept
 pub mod Demand2Walk
 pub mod Demand2Ends
 pub mod Demand2Begun
+pub mod Demand2Asked
 pub mod Demand2
 pub mod Lost
 pub mod LostBytes

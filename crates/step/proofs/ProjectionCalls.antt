@@ -14,7 +14,7 @@ use Rattle.completion.specs.declared.Completion.{Completion}
 use Rattle.completion.specs.declared.Context.the-variants.{None as bare}
 use Rattle.completion.specs.declared.Refusal.the-variants.{ForeignPosition, Unfit}
 use Rattle.completion.specs.declared.Reply.{Reply}
-use Rattle.completion.specs.declared.Reply.the-variants.{No as turnedAway, Ok}
+use Rattle.completion.specs.declared.Reply.the-variants.{No as turnedAway}
 use Rattle.domain.specs.declared.FirstCause.{FirstCause}
 use Rattle.domain.specs.Domain.{firstKept}
 use Rattle.model.specs.declared.Opening.{Opening}
@@ -30,6 +30,7 @@ use Rattle.step.specs.Sound.{Sound}
 use Rattle.step.specs.Laws.{Made, Made.calls, Made.looks, done}
 use Rattle.step.specs.Alone.{Alones, putAt, heardCall, heard}
 use Rattle.step.specs.Demand3.{Start, plansOf, Projected}
+use Rattle.step.proofs.Picked.{by-pick}
 use Rattle.step.proofs.Answers.{write-passed, read-passed}
 use Rattle.step.proofs.ProjectionFixed.{Fixed, plans-set}
 use Rattle.step.proofs.ProjectionSet.{put-here, put-there}
@@ -71,8 +72,9 @@ module _ (s : State) (a : Alones) (p : Projected s a) (h : ℕ) (g : Region) (pl
 
   -- another mark
   projected-marked : g .forced ≡ regionAt s h .forced → Projected (marked s h g .0) a
-  unfolding marked pick regionAt
-  projected-marked e = by-handle (ltb h (s .settings .regions))
+  unfolding marked regionAt
+  projected-marked e =
+      by-pick (ltb h (s .settings .regions)) (λ (z : State × Reply). Projected (z .0) a) (λ known. projected-set-mark (a .forced) (λ k lt. p .forced k lt ∙ sym (forced k))) (λ unknown. p)
     where
       forced : (k : ℕ) → getD (set (s .regions) h g) k noRegion .forced ≡ getD (s .regions) k noRegion .forced
       forced k =
@@ -80,14 +82,10 @@ module _ (s : State) (a : Alones) (p : Projected s a) (h : ℕ) (g : Region) (pl
           ∙ ap (λ (l : List Bool). getD l k (noRegion .forced)) (map-set-same (λ (y : Region). y .forced) (s .regions) h g noRegion e)
           ∙ List·getD-map (λ (y : Region). y .forced) (s .regions) k noRegion
 
-      by-handle : (b : Bool) → Projected (pick {A = State × Reply} b (withRegions s (set (s .regions) h g), Ok) (s, turnedAway (ForeignPosition bare)) .0) a
-      by-handle true = projected-set-mark (a .forced) (λ k lt. p .forced k lt ∙ sym (forced k))
-      by-handle false = p
-
   -- the forced mark
   projected-forced : Sound s → Projected (marked s h g .0) (pick (ltb h (s .settings .regions)) (record { ops = a .ops; forced = putAt h (g .forced) (a .forced); first = a .first; count = a .count }) a)
   unfolding marked pick regionAt
-  projected-forced i = by-handle (ltb h (s .settings .regions)) refl
+  projected-forced i = by-handle (ltb h (s .settings .regions)) _ refl
     where
       to-forced : Alones
       to-forced = record { ops = a .ops; forced = putAt h (g .forced) (a .forced); first = a .first; count = a .count }
@@ -102,9 +100,9 @@ module _ (s : State) (a : Alones) (p : Projected s a) (h : ℕ) (g : Region) (pl
           by-case (no n) =
               put-there h k (g .forced) (a .forced) n ∙ p .forced k lk ∙ ap (λ (y : Region). y .forced) (sym (getD-set-other (s .regions) h k g noRegion (λ e. n (sym e))))
 
-      by-handle : (b : Bool) → ltb h (s .settings .regions) ≡ b → Projected (pick {A = State × Reply} b (withRegions s (set (s .regions) h g), Ok) (s, turnedAway (ForeignPosition bare)) .0) (pick b to-forced a)
-      by-handle true e = projected-set-mark (putAt h (g .forced) (a .forced)) (forced (ltb-true h (s .settings .regions) e))
-      by-handle false e = p
+      by-handle : (b : Bool) (reply : Reply) → ltb h (s .settings .regions) ≡ b → Projected (pick {A = State × Reply} b (withRegions s (set (s .regions) h g), reply) (s, turnedAway (ForeignPosition bare)) .0) (pick b to-forced a)
+      by-handle true reply e = projected-set-mark (putAt h (g .forced) (a .forced)) (forced (ltb-true h (s .settings .regions) e))
+      by-handle false reply e = p
 
 -- ---- every call
 

@@ -1,13 +1,15 @@
 -- Demand 2, by POSIX: from any table that calls have left, "the pieces of an accepted page operation, each taken whole with its buffer back and no other
 -- operation writing its bytes meanwhile, act together like one transfer of every byte to or from its mapped card offset, and touch no other byte".
--- Stated over the table's own rows and pool (a reply asks for what the row awaits: Asked), with any other calls in between. Proved in proofs/Demand2.antt (demand2).
+-- Stated over the table's own replies, rows and pool, with any other calls in between. The card follows what the row under a tag awaits (`cardBy`); that is what the
+-- last reply under the tag asks the host for: `.asked` below. Proved in proofs/Demand2.antt (demand2).
 use mathlib.Core.Path.{_≡_}
-use mathlib.Core.Logic.{_≢_}
+use mathlib.Core.Logic.{_≢_, _⊎_}
 use mathlib.Core.Bool.{Bool, true, false, _||_}
 use mathlib.Core.Option.{Option, none, some}
 use mathlib.Core.List.{List, [], _∷_, _++_}
 use Prim.Native.Nat.{ℕ, suc, _+_, _-_, _≤_, _<_}
 use lib.ListN.{length, getD, drop}
+use lib.Dec.{eqb}
 use Rattle.layout.specs.Pick.{pick}
 use Rattle.regionmap.specs.Map.{Map, place, pieces}
 use Rattle.iobuf.specs.Turn.{stretch}
@@ -20,6 +22,8 @@ use Rattle.completion.specs.declared.Outcome.{Outcome}
 use Rattle.completion.specs.declared.Outcome.the-variants.{Written, Receipt, Read as readTo, Unknown, Interrupted, Corruption, Io, QueueFull, Poisoned as poisonedBy}
 use Rattle.completion.specs.declared.Buffer.the-variants.{Back}
 use Rattle.completion.specs.declared.Completion.{Completion}
+use Rattle.completion.specs.declared.Reply.{Reply}
+use Rattle.completion.specs.declared.Reply.the-variants.{Piece as piece, No as turnedAway, Rejected, Done, Flush as flushAsked, Took, None as noneReady, Ok, Writes, Mark}
 use Rattle.model.specs.declared.Opening.{Opening}
 use Rattle.model.specs.declared.Kind.{Kind}
 use Rattle.model.specs.declared.Kind.the-variants.{Page, Read}
@@ -32,7 +36,7 @@ use Rattle.model.specs.declared.Call.the-variants.{Write, ReadPage}
 use Rattle.model.specs.State.{State}
 use Rattle.step.specs.Questions.{regionAt}
 use Rattle.step.specs.Rules.{firstOf, pieceLength, isWhole, Input, Input.answered, Input.flushed, ticketOf, unflushed, flushOutcome}
-use Rattle.step.specs.Step.{startOf, endOf, rowOf, rowAt, bytesAt, planOf, names, writesIn}
+use Rattle.step.specs.Step.{startOf, endOf, rowOf, rowAt, bytesAt, planOf, asksFor, names, writesIn}
 use Rattle.step.specs.Sound.{Sound}
 use Rattle.step.specs.Laws.{Made, Made.calls, Event, leave, next, run, replyTo}
 use Rattle.step.specs.Lists.{brought, isAway, planAt, leftIn, Given, given, tagIn, Completed, gets, cardBy, cardAfter, Hosted, HostMay}
@@ -228,6 +232,30 @@ isKept (Io r o e) = false
 isKept (QueueFull r) = false
 isKept (poisonedBy c) = false
 
+-- ---- what the replies ask the host for
+
+-- a reply that speaks of the operation under the queue tag t
+unfoldable pub under : ℕ → Reply → Bool
+under t (piece u o n b) = eqb u t
+under t (turnedAway f) = false
+under t (Rejected g o e b) = false
+under t (Done u) = eqb u t
+under t (flushAsked u n) = eqb u t
+under t (Took c) = false
+under t noneReady = false
+under t Ok = false
+under t (Writes w) = false
+under t (Mark m) = false
+
+-- the last reply of a list of events that does, or r where none does
+unfoldable pub lastReply : State → List Event → ℕ → Reply → Reply
+lastReply s [] t r = r
+lastReply s (e ∷ es) t r = lastReply (next s e) es t (pick (under t (replyTo s e)) (replyTo s e) r)
+
+-- the reply that asks for what the row under the queue tag t awaits: its piece (card offset, count, buffer) or its flush (need)
+abbrev pub asksUnder : State → ℕ → Reply
+asksUnder s t = let r = rowAt s (rowOf t) in asksFor (planAt s r) t (r .buffer) (r .awaits)
+
 pub record Demand2 : Type 0 where
   pub write : (x : Start) (h : List Event) (e : Event) (t : ℕ) (q : Request) → Accepted x h e t q (calls (Write q)) → (card : Card) (es : List Event)
       → Served (submittedIn x h e) es t q card → Wrote x h e t q card es
@@ -237,6 +265,12 @@ pub record Demand2 : Type 0 where
   pub kept : (x : Start) (h : List Event) (e : Event) (t : ℕ) (q : Request) → Accepted x h e t q (calls (Write q)) → (es : List Event) → Followed (submittedIn x h e) es t
       → (c : Completion) (bytes : List ℕ) (more : List Completed) → getsIn x h e t q es ≡ (c, bytes) ∷ more → isKept (c .outcome) ≡ true
       → AllWhole (submittedIn x h e) es t × (length (pieces (regionAt (after x h) (q .handle) .map) (q .offset .0) (q .length)) ≤ answersIn (givenTo x h e t es))
+  -- "The reply is the first piece: card offset, buffer, count."; "and the next piece is the reply"; "keeps the row and replies with tag and need". As long as an operation
+  -- is open, whatever calls come between and whatever the card answers, the last reply under its queue tag asks for just the piece or the flush that its row awaits: a
+  -- host that transfers what the replies ask for transfers what `cardBy` says
+  pub asked : (x : Start) (h : List Event) (e : Event) (t : ℕ) (q : Request) (made : Made) → (made ≡ calls (Write q)) ⊎ (made ≡ calls (ReadPage q)) → Accepted x h e t q made
+      → (es : List Event) → Followed (submittedIn x h e) es t → names (rowAt (run (submittedIn x h e) es) (rowOf t)) t ≡ true
+      → lastReply (submittedIn x h e) es t (replyTo (after x h) e) ≡ asksUnder (run (submittedIn x h e) es) t
   -- "and touch no other byte", of card or pool: an answer changes no card byte but those that its operation is still to write, and no call a byte of a buffer that is not the
   -- buffer of the live row that its tag names
   pub card-others : (s : State) (e : Event) (card : Card) (y : ℕ) → Sound s → (writesIn (rowAt s (rowOf (tagIn (e .made))) .awaits) ≡ true → ToWrite s (rowAt s (rowOf (tagIn (e .made)))) y → ⊥) → cardBy s e card y ≡ card y
