@@ -56,6 +56,7 @@ figures = record {
   last-generation = refl;
   not-synced = refl;
   synced-7 = refl;
+  flush-asked = refl;
   refused-first = refl;
   lost-buffer = refl;
   unknown-tag = refl;
