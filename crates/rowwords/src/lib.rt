@@ -146,7 +146,7 @@ fn words_of(row: Row) -> [u64; 16]
     ]
 }
 
-// A row is put at a place; nothing changes where there is none (rows::claim).
+// A row is put at a place; nothing changes where there is none (rows::claim, and release).
 pub fn put_row(words: &mut [u64], at: usize, row: Row)
     ensures { λ _. ⌜ (rowsIn (now (words .exit)) ≡ set (rowsIn (now (words .entry))) at row) × (now (words .exit) ≡ rowPut at row (now (words .entry))) ⌝ }
 {

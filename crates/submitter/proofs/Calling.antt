@@ -1,7 +1,7 @@
 -- From what the parts of `call` ensure to what it ensures. `touch` ensures it of any rows among which the row found is the one to touch; the lent
--- ones are such rows, by what `place` and `find` give. Then the last rows and the last counts, as `claim`, `accept` and `release` leave them, are put in
--- place.
-use mathlib.Core.Path.{_≡_, refl, sym, subst}
+-- ones are such rows, by what `place` and `find` give. Then the last rows, as `claim` and `release` of rows leave them, and the last counts, as `accept` and
+-- `release` of counts do, are put in place.
+use mathlib.Core.Path.{_≡_, refl, sym, ap, subst, _∙_}
 use mathlib.Core.List.{List}
 use Prim.Native.Nat.{ℕ}
 use lib.ListN.{length, getD, set}
@@ -11,6 +11,8 @@ use Rattle.model.specs.declared.Counts.{Counts}
 use Rattle.model.specs.declared.Row.{Row}
 use Rattle.model.specs.State.{freed}
 use Rattle.optable.specs.Counted.{acceptedIf, releasedBy}
+use Rattle.rows.specs.Claimed.{claimedIn, releasedIn}
+use Rattle.rows.proofs.Storing.{claimed-released}
 use Rattle.called.specs.declared.Touched.{Touched}
 use Rattle.called.specs.Called.{lentOf, placeOf, CallsTo, TouchesTo}
 use Rattle.submitter.proofs.Slices.{Words}
@@ -49,6 +51,13 @@ module _ (o : Call) (counts : RefT Counts) (rows : RefT (List Row)) (store free 
 
   abbrev pub Claimed : Left → List Row → Type 0
   Claimed x rows′ = (rows′ ≡ set (rows .now) place (x .touched .row)) × (length rows′ ≡ length (rows .now))
+
+  -- claimed and then released, the row stands at its place
+  pub rows-claimed : (x : Left) (rows₁ rows′ : List Row) → (rows₁ ≡ claimedIn (x .touched .frees) place (x .touched .row) (rows .now)) × (length rows₁ ≡ length (rows .now))
+      → (rows′ ≡ releasedIn (x .touched .frees) place (x .touched .row) rows₁) × (length rows′ ≡ length rows₁) → Claimed x rows′
+  rows-claimed x rows₁ rows′ claimed released =
+      let t = x .touched in
+      (released .0 ∙ ap (releasedIn (t .frees) place (t .row)) (claimed .0) ∙ claimed-released (t .frees) place (t .row) (rows .now), released .1 ∙ claimed .1)
 
   abbrev pub Counted : Left → Counts → Type 0
   Counted x c′ = c′ ≡ releasedBy (x .touched .frees) (acceptedIf (x .touched .accepts) c)

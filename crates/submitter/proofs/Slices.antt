@@ -1,7 +1,7 @@
 -- What the walks of this crate say of a lent slice: its machine value, and that a `&mut [T]` is lent as a `&[T]` for one call and comes back as it
--- was. The lifetime of that call is made with the loan and ended with it. Then what a call on such a loan asks, and what it gives where its contract
--- says which value comes back.
-use mathlib.Core.Path.{_≡_, refl}
+-- was, or is lent as a `&mut [T]` and comes back at the list that the call leaves. The lifetime of that call is made with the loan and ended with it. Then
+-- what a call on such a loan asks, and what it gives where its contract says which value comes back.
+use mathlib.Core.Path.{_≡_, refl, sym, ap, subst}
 use mathlib.Core.List.{List, [], _∷_}
 use Prim.Native.Nat.{ℕ}
 use lib.ListN.{length}
@@ -14,17 +14,18 @@ use base.Fml.{Lft, GName, Share, Fml, ftrue, fsep, flft, fobs, fauth, flent, fob
 use prog.Wp.{Heap}
 use ghost.Atoms.{Atoms, sem}
 use contract.Monad.{fact}
-use types.Kit.{Given, Item, ‵, raw, some, later, _⊛_, mean, _$_, _∵_, !, qed, move, keep, drop, use1, group, split, join, pick, rewrite, fsplit, fjoin, feqI, frame, await, updating, now as at-once, show, done}
+use types.Kit.{Given, Item, ‵, raw, some, later, _⊛_, mean, _$_, _∵_, !, qed, move, keep, drop, use1, use3, group, split, join, pick, rewrite, fsplit, fjoin, feqI, frame, await, updating, now as at-once, show, done}
 use types.Tokens.{lft-new, lft-end, lent-back}
+use types.SemTy.{cells, Arr}
 use types.Share.{arr-parts}
 use denote.RattleType.{RattleType, owns}
 use denote.Laws.{Is, Makes}
 use denote.Shadow.{pureL, pureI}
-use denote.Memory.{shares}
+use denote.Memory.{shares, mem as in-memory}
 use denote.Ref.{RefT}
-use denote.Slice.{sliceVal, MutSlice, ShrSlice, Room, heres, at-slice, codedHoleys}
-use denote.Lend.{Held, lends-shr-slice}
-use denote.Index.{opens-slice, closes-slice}
+use denote.Slice.{sliceVal, MutSlice, ShrSlice, Room, finally, heres, at-slice, codedHoleys}
+use denote.Lend.{Held, lends-slice, slice-back, lends-shr-slice}
+use denote.Index.{row, whole-out, whole-in, opens-slice, closes-slice}
 use denote.Steps.{heard, owned, nothing}
 
 -- a list of numbers behind a slice
@@ -77,6 +78,43 @@ module _ (T : RattleType) (κ : Lft) (q : Share) (x : RefT (List (T .Denot))) wh
           qed W (‵ (flft (ν ∷ []) fullShare) ∷ ‵ (Kept ν) ∷ []) ∵ updating ! $ lft-end ! tt $ move ! (1 ∷ []) $ fsplit ! $ move ! (2 ∷ 0 ∷ []) $ lent-back ! tt $ fsplit ! $ drop ! $
           move ! (1 ∷ []) $ fsplit ! $ move ! (1 ∷ []) $ fsplit ! $ move ! (3 ∷ 2 ∷ 0 ∷ 1 ∷ []) $ closes-slice ! tt T (x .now) (x .now) refl (x .ptr .0) (x .ptr .1) $ at-once ! $
           fjoin ! $ pureI ! (at-slice T x (count x ∷ [])) (tt, (tt, tt)) (refl, room) $ fjoin ! $ done !
+
+-- a slice lent on: what is had of it at the list zs, what a call ν has of the loan, and what is kept meanwhile
+module _ (T : RattleType) (κ : Lft) (q : Share) (x : RefT (List (T .Denot))) where
+  abbrev pub changed : List (T .Denot) → RefT (List (T .Denot))
+  changed zs = record { ptr = x .ptr; name = x .name; now = zs }
+
+  abbrev pub HeldAt : {M : Type 1} (𝓤 : URA M) → Lifetime → List (T .Denot) → Item 𝓤
+  HeldAt 𝓤 ℓ zs = ‵ (MutSlice ℓ κ T .own (changed zs) (count x ∷ [])) ⊛ ‵ (flft κ q)
+
+  abbrev pub LeaseOn : {M : Type 1} (𝓤 : URA M) → ℕ → GName → Item 𝓤
+  LeaseOn 𝓤 ν δ = ‵ (MutSlice (named 0) (ν ∷ []) T .own (under x δ) (count x ∷ [])) ⊛ ‵ (flft (ν ∷ []) fullShare)
+
+  abbrev pub KeptOn : ℕ → GName → Fml
+  KeptOn ν δ =
+      fsep (flent (ν ∷ []) (Held T (length (x .now)) (x .ptr .0) (x .ptr .1) δ)) (fsep (fobor κ q (Held T (length (x .now)) (x .ptr .0) (x .ptr .1) (x .name)))
+      (fsep (fobs (x .name) (codedHoleys T .code (heres T (x .now)))) (fauth (x .name) (codedHoleys T .code (heres T (x .now))))))
+
+  module _ {M : Type 1} (𝓤 : URA M) (H : Heap 𝓤) (A : Atoms 𝓤) (W : Given 𝓤 H A) (ℓ : Lifetime) where
+    pub lends-whole : ent 𝓤 (mean 𝓤 H A (Whole T κ q x 𝓤 H A ℓ)) (H .⇛ (ex 𝓤 (λ (ν : ℕ). ex 𝓤 (λ (δ : GName). mean 𝓤 H A (LeaseOn 𝓤 ν δ ⊛ ‵ (KeptOn ν δ))))))
+    lends-whole =
+        qed W (‵ (MutSlice ℓ κ T .own x (count x ∷ [])) ∷ ‵ (flft κ q) ∷ []) ∵ updating ! $ fsplit ! $ pureL ! (at-slice T x (count x ∷ [])) (λ p. fsplit ! $
+        opens-slice ! tt T (x .now) (x .ptr .0) (x .ptr .1) $ use1 W (‵ (cells (in-memory T) (x .now) (x .ptr .0) (x .ptr .1))) (whole-in 𝓤 H A W T (x .now) (x .ptr .0) (x .ptr .1)) $ lft-new ! tt (λ ν. move ! (1 ∷ []) $
+        use1 W (later (some (λ (δ : GName). ‵ (MutSlice (named 0) (ν ∷ []) T .own (under x δ) (count x ∷ [])) ⊛ ‵ (flent (ν ∷ []) (Held T (length (x .now)) (x .ptr .0) (x .ptr .1) δ)))))
+        (lends-slice 𝓤 H A W T (named 0) (ν ∷ []) (x .now) (x .ptr .0) (x .ptr .1) (p .1)) $ await ! tt $ pick ! (λ δ. split ! $
+        -- [the loan; its other side; the token; the open borrow; obs; auth]
+        at-once ! $ show ! (λ (n : ℕ). ex 𝓤 (λ (γ : GName). mean 𝓤 H A (LeaseOn 𝓤 n γ ⊛ ‵ (KeptOn n γ)))) ν $ show ! (λ (γ : GName). mean 𝓤 H A (LeaseOn 𝓤 ν γ ⊛ ‵ (KeptOn ν γ))) δ $
+        move ! (4 ∷ 5 ∷ []) $ fjoin ! $ move ! (4 ∷ 0 ∷ []) $ fjoin ! $ move ! (2 ∷ 0 ∷ []) $ fjoin ! $ move ! (1 ∷ 2 ∷ []) $ join ! $ done !)))
+
+    pub whole-back : Room T (length (x .now)) → (ν : ℕ) (δ : GName) (zs : List (T .Denot)) → length zs ≡ length (x .now)
+        → ent 𝓤 (sep 𝓤 (mean 𝓤 H A (‵ (flft (ν ∷ []) fullShare) ⊛ ‵ (finally T δ zs))) (sem 𝓤 H A (KeptOn ν δ))) (H .⇛ (mean 𝓤 H A (HeldAt 𝓤 ℓ zs)))
+    whole-back room ν δ zs e =
+        qed W ((‵ (flft (ν ∷ []) fullShare) ⊛ ‵ (finally T δ zs)) ∷ ‵ (KeptOn ν δ) ∷ []) ∵ updating ! $ split ! $ lft-end ! tt $ move ! (2 ∷ []) $ fsplit ! $ move ! (2 ∷ 0 ∷ 3 ∷ []) $
+        use3 W (later (‵ (Arr (in-memory T) (length (x .now)) .lies zs (x .ptr .0) (x .ptr .1)))) (slice-back 𝓤 H A W T (ν ∷ []) δ zs (length (x .now)) (x .ptr .0) (x .ptr .1)) $ await ! tt $ fsplit ! $ drop ! $
+        use1 W (‵ (row T fullShare zs (x .ptr .0) (x .ptr .1))) (whole-out 𝓤 H A W T zs (x .ptr .0) (x .ptr .1)) $
+        -- [the elements; the open borrow with obs and auth]
+        move ! (1 ∷ []) $ fsplit ! $ move ! (1 ∷ []) $ fsplit ! $ move ! (3 ∷ 2 ∷ 0 ∷ 1 ∷ []) $ closes-slice ! tt T (x .now) zs e (x .ptr .0) (x .ptr .1) $ at-once ! $
+        fjoin ! $ pureI ! (at-slice T (changed zs) (count x ∷ [])) (tt, (tt, tt)) (ap (λ (k : ℕ). sliceVal (x .ptr) k ∷ []) (sym e), subst (Room T) (sym e) room) $ fjoin ! $ done !
 
 -- what a call asks that takes such a loan and a value y that is had for nothing
 module _ {M : Type 1} (𝓤 : URA M) (H : Heap 𝓤) (A : Atoms 𝓤) (W : Given 𝓤 H A) (T : RattleType) (x : RefT (List (T .Denot))) (U : RattleType) (makes : Makes 𝓤 H A U (Is U)) (y : U .Denot) (vs : List Val) (is : Is U y vs) where

@@ -57,7 +57,7 @@ pub fn open(
 }
 
 // One call (Submitter::write, read_page, and the calls of queue_core.rs): the row that it touches is found, what the call does to it is decided, and it is
-// claimed, with the counts, as decided; a call that is turned away claims the row as it was.
+// claimed, or released, with the counts, as decided; a call that is turned away claims the row as it was.
 pub fn call(
     call: Call,
     counts: &mut Counts,
@@ -74,7 +74,8 @@ pub fn call(
     let at = called::place(call, c, free) as usize;
     let row = rows::find(rows, at);
     let t = queuecore::touch(call, row, c, rows.len(), store, free, ready, owners, pool);
-    rows::claim(rows, at, t.row);
+    rows::claim(rows, at, t.row, t.frees);
+    rows::release(rows, at, t.row, t.frees);
     counts::accept(counts, t.accepts);
     counts::release(counts, t.frees);
     t.reply

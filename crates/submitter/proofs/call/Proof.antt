@@ -1,8 +1,8 @@
 -- `submitter::call` meets its contract: a walk of its MIR by hand, since the borrow checker covers no function over a `&mut Counts` or a `&mut [Row]`.
--- The counts are read; the free stack is lent to `place` and the rows to `find`, and each comes back; then the five slices are passed on to `touch` and the
--- rows to `claim`, each for good at its own lifetime; the counts are lent to `accept`, come back, and are passed on to `release` for good. What `touch`
--- ensures, of these rows and of the row that was found, is what `call` ensures, once the last rows and the last counts are put in its place. Of the callees
--- the proof knows that they meet their contracts.
+-- The counts are read; the free stack is lent to `place` and the rows to `find`, and each comes back; then the five slices are passed on to `touch`, each for
+-- good at its own lifetime; the rows are lent to `claim`, come back, and are passed on to `release` for good, and so are the counts to `accept` and to their
+-- `release`. What `touch` ensures, of these rows and of the row that was found, is what `call` ensures, once the last rows and the last counts are put in its
+-- place. Of the callees the proof knows that they meet their contracts.
 use mathlib.Core.Path.{refl, ap, _∙_}
 use mathlib.Core.List.{List, [], _∷_}
 use Prim.Native.Nat.{ℕ}
@@ -55,6 +55,11 @@ use Rattle.rows.proofs.find.Met as find-thm
 use Rattle.rows.proofs.claim.Symbol as claim-def
 use Rattle.rows.proofs.claim.Symbol.{name as #rows·claim}
 use Rattle.rows.proofs.claim.Met as claim-thm
+use Rattle.rows.proofs.release.Symbol as row-release-def
+use Rattle.rows.proofs.release.Symbol.{name as #rows·release}
+use Rattle.rows.proofs.release.Met as row-release-thm
+use Rattle.rows.proofs.Storing.{Becomes as RowsBecome}
+use Rattle.rows.specs.Claimed.{claimedIn, releasedIn}
 use Rattle.counts.proofs.accept.Symbol as accept-def
 use Rattle.counts.proofs.accept.Symbol.{name as #counts·accept}
 use Rattle.counts.proofs.accept.Met as accept-thm
@@ -69,9 +74,9 @@ use Rattle.queuecore.proofs.touch.Symbol as touch-def
 use Rattle.queuecore.proofs.touch.Symbol.{name as #queuecore·touch}
 use Rattle.queuecore.proofs.touch.Met as touch-thm
 use Rattle.submitter.proofs.Again.{pointer, renamed, Held, Borrowed, Aside, lends-on, back-at}
-use Rattle.submitter.proofs.Calling.{Left, Did, Claimed, Counted, calls-to}
-use Rattle.submitter.proofs.Passing.{Place, Find, Touch, Claim, to-place, goes-place, place-comes, to-find, goes-find, find-comes, Seen, Lent, CountsLeft, RowsLeft, Rest, PartsLeft, to-touch, goes-touch, TouchGave, touch-comes, to-claim, goes-claim, ClaimGave, claim-comes, to-become, goes-become, BecomeGave, become-comes}
-use Rattle.submitter.proofs.Slices.{Words, count, Whole, Loan, lends, back}
+use Rattle.submitter.proofs.Calling.{Left, Did, Claimed, rows-claimed, Counted, calls-to}
+use Rattle.submitter.proofs.Passing.{Place, Find, Touch, to-place, goes-place, place-comes, to-find, goes-find, find-comes, Seen, Lent, CountsLeft, RowsLeft, Rest, PartsLeft, to-touch, goes-touch, TouchGave, touch-comes, to-store, goes-store, StoreGave, store-comes, to-become, goes-become, BecomeGave, become-comes}
+use Rattle.submitter.proofs.Slices.{Words, count, under, Whole, Loan, lends, back, changed, HeldAt, LeaseOn, KeptOn, lends-whole, whole-back}
 use Rattle.submitter.proofs.Values.{Call-row, call-ty, call-val, call-vals, call-tells, call-typed, Reply-row, reply-ty, reply-val, reply-makes, reply-typed, Touched-row, touched-name, touched-tys, touched-ty, touched-spelt, touched-row, touched-frees, touched-reply, touched-typed}
 use Rattle.submitter.proofs.call.Key.{name as #submitter·call}
 use Rattle.submitter.proofs.call as self
@@ -168,7 +173,7 @@ module _ {M : Type 1} (𝓤 : URA M) (H : Heap 𝓤) (A : Atoms 𝓤) (W : Given
       nothing ! $ nothing ! $ move ! (0 ∷ 8 ∷ 7 ∷ 6 ∷ 5 ∷ 4 ∷ 2 ∷ 3 ∷ 1 ∷ []) $ group ! 9 $ frame ! $ owned ! Reply-row (Is Reply-row) (reply-makes 𝓤 H A) (x .touched .reply) _ is $ done !
 
   module _ (C : Calls 𝓤 H) (Λ : Loops 𝓤 H) (fm : FmC 𝓤 H (W .laws) C) (known-place : Triple 𝓤 (C #called·place) (Place 𝓤 H A mem run)) (known-find : Triple 𝓤 (C #rows·find) (Find 𝓤 H A mem run)) (known-touch : Triple 𝓤 (C #queuecore·touch) (Touch 𝓤 H A mem run))
-      (known-claim : Triple 𝓤 (C #rows·claim) (Claim 𝓤 H A mem run)) (known-accept : Triple 𝓤 (C #counts·accept) (Becomes flag acceptedIf 𝓤 H A)) (known-release : Triple 𝓤 (C #counts·release) (Becomes frees releasedBy 𝓤 H A)) where
+      (known-claim : Triple 𝓤 (C #rows·claim) (RowsBecome claimedIn 𝓤 H A)) (known-row-release : Triple 𝓤 (C #rows·release) (RowsBecome releasedIn 𝓤 H A)) (known-accept : Triple 𝓤 (C #counts·accept) (Becomes flag acceptedIf 𝓤 H A)) (known-release : Triple 𝓤 (C #counts·release) (Becomes frees releasedBy 𝓤 H A)) where
     -- `touch`, where the row's machine value is w
     abbrev to : Val → Touch 𝓤 H A mem run .Ghost
     to = to-touch 𝓤 H A W mem run κ₂ κ₃ κ₄ κ₅ κ₆ q₂ q₃ q₄ q₅ q₆ o counts rows store free ready owners pool
@@ -183,83 +188,93 @@ module _ {M : Type 1} (𝓤 : URA M) (H : Heap 𝓤) (A : Atoms 𝓤) (W : Given
     walk : Rooms rows store free ready owners pool → Is Call-row o (call-val o ∷ []) → ent 𝓤 (onEntry 𝓤 H A self.signature (κ₀, (κ₁, (κ₂, (κ₃, (κ₄, (κ₅, (κ₆, tt))))))) (q₀, (q₁, (q₂, (q₃, (q₄, (q₅, (q₆, tt))))))) a at) (WpFn 𝓤 H C Λ code.function args Post)
     walk rooms is-o =
         via 𝓤 _ begins (qed W Entry ∵ enter ! C Λ code.function args _ $
-        alloc1 ! (λ l₀. alloc1 ! (λ l₁. alloc1 ! (λ l₂. alloc1 ! (λ l₃. alloc1 ! (λ l₄. alloc1 ! (λ l₅. alloc1 ! (λ l₆. alloc1 ! (λ l₇. alloc1 ! (λ l₈. alloc1 ! (λ l₉. alloc1 ! (λ l₁₀. alloc1 ! (λ l₁₁. alloc1 ! (λ l₁₂. alloc1 ! (λ l₁₃. alloc1 ! (λ l₁₄. alloc1 ! (λ l₁₅. alloc1 ! (λ l₁₆. alloc1 ! (λ l₁₇. alloc1 ! (λ l₁₈. alloc1 ! (λ l₁₉. alloc1 ! (λ l₂₀. alloc1 ! (λ l₂₁. alloc1 ! (λ l₂₂. alloc1 ! (λ l₂₃. alloc1 ! (λ l₂₄. alloc1 ! (λ l₂₅. alloc1 ! (λ l₂₆. alloc1 ! (λ l₂₇. alloc1 ! (λ l₂₈. alloc1 ! (λ l₂₉. alloc1 ! (λ l₃₀. alloc1 ! (λ l₃₁. alloc1 ! (λ l₃₂. alloc1 ! (λ l₃₃. alloc0 ! $ params1 ! $
-        pass1 ! (init ! 64 {τ = call-ty} refl (call-typed 𝓤 H A W o (call-val o) is-o)) $ pass1 ! (init ! 62 refl (tt, tt)) $ pass1 ! (init ! 60 refl (tt, (tt, (record { fits = rooms .rows .0 }, tt)))) $ pass1 ! (init ! 58 refl (tt, (tt, (record { fits = rooms .store .0 }, tt)))) $ pass1 ! (init ! 56 refl (tt, (tt, (record { fits = rooms .free .0 }, tt)))) $ pass1 ! (init ! 54 refl (tt, (tt, (record { fits = rooms .ready .0 }, tt)))) $ pass1 ! (init ! 52 refl (tt, (tt, (record { fits = rooms .owners .0 }, tt)))) $ pass1 ! (init ! 50 refl (tt, (tt, (record { fits = rooms .pool .0 }, tt)))) $ pass0 ! $
-        -- [_33; …; _32; …; (each local i at 66 − 2 i) …; room for _0; …; the counts seen; lent; their token; free; rows; the rest]: the counts are read
-        move ! (68 ∷ 69 ∷ 70 ∷ []) $ opens ! tt N {h = c} (counts .ptr .0) (counts .ptr .1) (λ vs. spelt ! N (Is N) (shows 𝓤 H A N) Tally.vals Tally.tells fullShare c vs (counts .ptr .0) (counts .ptr .1) $ move ! (1 ∷ []) $ peeks ! N (Is N) (shows 𝓤 H A N) c (Tally.vals c) (λ is-c.
-        assigns ! (of-opd ! (load ! (from ! (hop ! (look ! 67 refl) (stop !))) (look-raw ! 1 refl))) (from ! (stop !)) (init ! 53 {τ = Tally.ty} {b = l₉} {o = 0} refl (Tally.typed 𝓤 H A W c _ is-c)) $
+        alloc1 ! (λ l₀. alloc1 ! (λ l₁. alloc1 ! (λ l₂. alloc1 ! (λ l₃. alloc1 ! (λ l₄. alloc1 ! (λ l₅. alloc1 ! (λ l₆. alloc1 ! (λ l₇. alloc1 ! (λ l₈. alloc1 ! (λ l₉. alloc1 ! (λ l₁₀. alloc1 ! (λ l₁₁. alloc1 ! (λ l₁₂. alloc1 ! (λ l₁₃. alloc1 ! (λ l₁₄. alloc1 ! (λ l₁₅. alloc1 ! (λ l₁₆. alloc1 ! (λ l₁₇. alloc1 ! (λ l₁₈. alloc1 ! (λ l₁₉. alloc1 ! (λ l₂₀. alloc1 ! (λ l₂₁. alloc1 ! (λ l₂₂. alloc1 ! (λ l₂₃. alloc1 ! (λ l₂₄. alloc1 ! (λ l₂₅. alloc1 ! (λ l₂₆. alloc1 ! (λ l₂₇. alloc1 ! (λ l₂₈. alloc1 ! (λ l₂₉. alloc1 ! (λ l₃₀. alloc1 ! (λ l₃₁. alloc1 ! (λ l₃₂. alloc1 ! (λ l₃₃. alloc1 ! (λ l₃₄. alloc1 ! (λ l₃₅. alloc0 ! $ params1 ! $
+        pass1 ! (init ! 68 {τ = call-ty} refl (call-typed 𝓤 H A W o (call-val o) is-o)) $ pass1 ! (init ! 66 refl (tt, tt)) $ pass1 ! (init ! 64 refl (tt, (tt, (record { fits = rooms .rows .0 }, tt)))) $ pass1 ! (init ! 62 refl (tt, (tt, (record { fits = rooms .store .0 }, tt)))) $ pass1 ! (init ! 60 refl (tt, (tt, (record { fits = rooms .free .0 }, tt)))) $ pass1 ! (init ! 58 refl (tt, (tt, (record { fits = rooms .ready .0 }, tt)))) $ pass1 ! (init ! 56 refl (tt, (tt, (record { fits = rooms .owners .0 }, tt)))) $ pass1 ! (init ! 54 refl (tt, (tt, (record { fits = rooms .pool .0 }, tt)))) $ pass0 ! $
+        -- [_35; …; _34; …; (each local i at 70 − 2 i) …; room for _0; …; the counts seen; lent; their token; free; rows; the rest]: the counts are read
+        move ! (72 ∷ 73 ∷ 74 ∷ []) $ opens ! tt N {h = c} (counts .ptr .0) (counts .ptr .1) (λ vs. spelt ! N (Is N) (shows 𝓤 H A N) Tally.vals Tally.tells fullShare c vs (counts .ptr .0) (counts .ptr .1) $ move ! (1 ∷ []) $ peeks ! N (Is N) (shows 𝓤 H A N) c (Tally.vals c) (λ is-c.
+        assigns ! (of-opd ! (load ! (from ! (hop ! (look ! 71 refl) (stop !))) (look-raw ! 1 refl))) (from ! (stop !)) (init ! 57 {τ = Tally.ty} {b = l₉} {o = 0} refl (Tally.typed 𝓤 H A W c _ is-c)) $
         move ! (1 ∷ 0 ∷ []) $ closes ! tt N c (Tally.vals c) (counts .ptr .0) (counts .ptr .1) $
         -- [the counts seen; lent; their token; the locals; free; rows; the rest]: free is lent to `place`
-        assigns ! (addr ! (from ! (fld ! refl (hop ! (look-in ! 59 (sub ! 0 refl (whole !))) (stop !))))) (from ! (stop !)) (init ! 41 refl (tt, tt)) $
-        assigns ! (agg ! (and-then ! (load ! (from ! (stop !)) (look ! 41 refl)) (and-then ! (load ! (from ! (fld ! refl (stop !))) (look-in ! 59 (sub ! 1 refl (whole !)))) (no-more !)))) (from ! (stop !)) (init ! 39 refl (tt, (tt, (record { fits = rooms .free .0 }, tt)))) $
-        move ! (71 ∷ []) $ use1 W (later (some (λ (ν : ℕ). some (λ (δ : GName). Loan u64 κ₃ q₃ free 𝓤 H A (named 3) ν δ)))) (lends u64 κ₃ q₃ free 𝓤 H A (named 3) W) $ await ! tt $ pick ! (λ ν. pick ! (λ δ. split ! $
+        assigns ! (addr ! (from ! (fld ! refl (hop ! (look-in ! 63 (sub ! 0 refl (whole !))) (stop !))))) (from ! (stop !)) (init ! 45 refl (tt, tt)) $
+        assigns ! (agg ! (and-then ! (load ! (from ! (stop !)) (look ! 45 refl)) (and-then ! (load ! (from ! (fld ! refl (stop !))) (look-in ! 63 (sub ! 1 refl (whole !)))) (no-more !)))) (from ! (stop !)) (init ! 43 refl (tt, (tt, (record { fits = rooms .free .0 }, tt)))) $
+        move ! (75 ∷ []) $ use1 W (later (some (λ (ν : ℕ). some (λ (δ : GName). Loan u64 κ₃ q₃ free 𝓤 H A (named 3) ν δ)))) (lends u64 κ₃ q₃ free 𝓤 H A (named 3) W) $ await ! tt $ pick ! (λ ν. pick ! (λ δ. split ! $
         use1 W (raw (Place 𝓤 H A mem run .pre (to-place 𝓤 H A W mem run o c free ν δ))) (goes-place 𝓤 H A W mem run o c free ν δ is-o is-c) $
         -- [what `place` asks; what is kept; the counts seen; lent; their token; the locals; rows; the rest]
-        calls-at ! fm (Place 𝓤 H A mem run) known-place (to-place 𝓤 H A W mem run o c free ν δ) (and-then ! (load ! (from ! (stop !)) (look ! 69 refl)) (and-then ! (load ! (from ! (stop !)) (look ! 53 refl)) (and-then ! (load ! (from ! (stop !)) (look ! 41 refl)) (no-more !)))) (λ v.
+        calls-at ! fm (Place 𝓤 H A mem run) known-place (to-place 𝓤 H A W mem run o c free ν δ) (and-then ! (load ! (from ! (stop !)) (look ! 73 refl)) (and-then ! (load ! (from ! (stop !)) (look ! 57 refl)) (and-then ! (load ! (from ! (stop !)) (look ! 45 refl)) (no-more !)))) (λ v.
         use1 W (later (‵ (u64 .own place (v ∷ [])) ⊛ ‵ (flft (ν ∷ []) fullShare))) (place-comes 𝓤 H A W mem run o c free ν δ v) $ await ! tt $ split ! $ peeks ! u64 (Is u64) (shows 𝓤 H A u64) place (v ∷ []) (λ is-at.
-        land ! (from ! (stop !)) (init ! 46 refl (uint-lawful 𝓤 H A W w64 .typed place _ is-at .0)) $ rewrite ! 46 (λ (u : Val). ‵ (fat fullShare (tyInt w64) l₁₃ 0 u)) (ap only (is-at .0)) refl $ drop ! $
+        land ! (from ! (stop !)) (init ! 50 refl (uint-lawful 𝓤 H A W w64 .typed place _ is-at .0)) $ rewrite ! 50 (λ (u : Val). ‵ (fat fullShare (tyInt w64) l₁₃ 0 u)) (ap only (is-at .0)) refl $ drop ! $
         use2 W (later Free) (back u64 κ₃ q₃ free 𝓤 H A (named 3) W (rooms .free) ν) $ await ! tt $
         -- [free; the counts seen; lent; their token; the locals; rows; the rest]: the rows are lent to `find`
-        assigns ! (of-opd ! (load ! (from ! (stop !)) (look ! 44 refl))) (from ! (stop !)) (init ! 50 refl (tt, record { fits = is-at .1 })) $
-        assigns ! (addr ! (from ! (fld ! refl (hop ! (look-in ! 64 (sub ! 0 refl (whole !))) (stop !))))) (from ! (stop !)) (init ! 38 refl (tt, tt)) $
-        assigns ! (agg ! (and-then ! (load ! (from ! (stop !)) (look ! 38 refl)) (and-then ! (load ! (from ! (fld ! refl (stop !))) (look-in ! 64 (sub ! 1 refl (whole !)))) (no-more !)))) (from ! (stop !)) (init ! 36 refl (tt, (tt, (record { fits = rooms .rows .0 }, tt)))) $
-        move ! (72 ∷ []) $ use1 W (later (some (λ (ν : ℕ). some (λ (δ : GName). Loan R κ₁ q₁ rows 𝓤 H A (named 1) ν δ)))) (lends R κ₁ q₁ rows 𝓤 H A (named 1) W) $ await ! tt $ pick ! (λ μ. pick ! (λ η. split ! $
+        assigns ! (of-opd ! (load ! (from ! (stop !)) (look ! 48 refl))) (from ! (stop !)) (init ! 54 refl (tt, record { fits = is-at .1 })) $
+        assigns ! (addr ! (from ! (fld ! refl (hop ! (look-in ! 68 (sub ! 0 refl (whole !))) (stop !))))) (from ! (stop !)) (init ! 42 refl (tt, tt)) $
+        assigns ! (agg ! (and-then ! (load ! (from ! (stop !)) (look ! 42 refl)) (and-then ! (load ! (from ! (fld ! refl (stop !))) (look-in ! 68 (sub ! 1 refl (whole !)))) (no-more !)))) (from ! (stop !)) (init ! 40 refl (tt, (tt, (record { fits = rooms .rows .0 }, tt)))) $
+        move ! (76 ∷ []) $ use1 W (later (some (λ (ν : ℕ). some (λ (δ : GName). Loan R κ₁ q₁ rows 𝓤 H A (named 1) ν δ)))) (lends R κ₁ q₁ rows 𝓤 H A (named 1) W) $ await ! tt $ pick ! (λ μ. pick ! (λ η. split ! $
         use1 W (raw (Find 𝓤 H A mem run .pre (to-find 𝓤 H A W mem run rows place μ η))) (goes-find 𝓤 H A W mem run rows place μ η (is-at .1)) $
         -- [what `find` asks; what is kept; free; the counts seen; lent; their token; the locals; the rest]
-        calls-at ! fm (Find 𝓤 H A mem run) known-find (to-find 𝓤 H A W mem run rows place μ η) (and-then ! (load ! (from ! (stop !)) (look ! 38 refl)) (and-then ! (load ! (from ! (stop !)) (look ! 52 refl)) (no-more !))) (λ w.
+        calls-at ! fm (Find 𝓤 H A mem run) known-find (to-find 𝓤 H A W mem run rows place μ η) (and-then ! (load ! (from ! (stop !)) (look ! 42 refl)) (and-then ! (load ! (from ! (stop !)) (look ! 56 refl)) (no-more !))) (λ w.
         use1 W (later (‵ (R .own row (w ∷ [])) ⊛ ‵ (flft (μ ∷ []) fullShare))) (find-comes 𝓤 H A W mem run rows place μ η w) $ await ! tt $ split ! $ peeks ! R (Is R) (shows 𝓤 H A R) row (w ∷ []) (λ is-row.
-        land ! (from ! (stop !)) (init ! 51 {τ = Element.ty} {b = l₁₁} {o = 0} refl (Element.typed 𝓤 H A W row w is-row)) $ move ! (1 ∷ 2 ∷ []) $
+        land ! (from ! (stop !)) (init ! 55 {τ = Element.ty} {b = l₁₁} {o = 0} refl (Element.typed 𝓤 H A W row w is-row)) $ move ! (1 ∷ 2 ∷ []) $
         use2 W (later Rows) (back R κ₁ q₁ rows 𝓤 H A (named 1) W (rooms .rows) μ) $ await ! tt $
         -- [rows; the row's; free; the counts seen; lent; their token; the locals; the rest]: all but the rows and the counts are passed on to `touch`
-        assigns ! (of-opd ! (load ! (from ! (fld ! refl (stop !))) (look-in ! 66 (sub ! 1 refl (whole !))))) (from ! (stop !)) (init ! 36 refl (tt, record { fits = rooms .rows .0 })) $
-        assigns ! (addr ! (from ! (fld ! refl (hop ! (look-in ! 64 (sub ! 0 refl (whole !))) (stop !))))) (from ! (stop !)) (init ! 34 refl (tt, tt)) $
-        assigns ! (agg ! (and-then ! (load ! (from ! (stop !)) (look ! 34 refl)) (and-then ! (load ! (from ! (fld ! refl (stop !))) (look-in ! 64 (sub ! 1 refl (whole !)))) (no-more !)))) (from ! (stop !)) (init ! 32 refl (tt, (tt, (record { fits = rooms .store .0 }, tt)))) $
-        assigns ! (addr ! (from ! (fld ! refl (hop ! (look-in ! 62 (sub ! 0 refl (whole !))) (stop !))))) (from ! (stop !)) (init ! 30 refl (tt, tt)) $
-        assigns ! (agg ! (and-then ! (load ! (from ! (stop !)) (look ! 30 refl)) (and-then ! (load ! (from ! (fld ! refl (stop !))) (look-in ! 62 (sub ! 1 refl (whole !)))) (no-more !)))) (from ! (stop !)) (init ! 28 refl (tt, (tt, (record { fits = rooms .free .0 }, tt)))) $
-        assigns ! (addr ! (from ! (fld ! refl (hop ! (look-in ! 60 (sub ! 0 refl (whole !))) (stop !))))) (from ! (stop !)) (init ! 26 refl (tt, tt)) $
-        assigns ! (agg ! (and-then ! (load ! (from ! (stop !)) (look ! 26 refl)) (and-then ! (load ! (from ! (fld ! refl (stop !))) (look-in ! 60 (sub ! 1 refl (whole !)))) (no-more !)))) (from ! (stop !)) (init ! 24 refl (tt, (tt, (record { fits = rooms .ready .0 }, tt)))) $
-        assigns ! (addr ! (from ! (fld ! refl (hop ! (look-in ! 58 (sub ! 0 refl (whole !))) (stop !))))) (from ! (stop !)) (init ! 22 refl (tt, tt)) $
-        assigns ! (agg ! (and-then ! (load ! (from ! (stop !)) (look ! 22 refl)) (and-then ! (load ! (from ! (fld ! refl (stop !))) (look-in ! 58 (sub ! 1 refl (whole !)))) (no-more !)))) (from ! (stop !)) (init ! 20 refl (tt, (tt, (record { fits = rooms .owners .0 }, tt)))) $
-        assigns ! (addr ! (from ! (fld ! refl (hop ! (look-in ! 56 (sub ! 0 refl (whole !))) (stop !))))) (from ! (stop !)) (init ! 18 refl (tt, tt)) $
-        assigns ! (agg ! (and-then ! (load ! (from ! (stop !)) (look ! 18 refl)) (and-then ! (load ! (from ! (fld ! refl (stop !))) (look-in ! 56 (sub ! 1 refl (whole !)))) (no-more !)))) (from ! (stop !)) (init ! 16 refl (tt, (tt, (record { fits = rooms .pool .0 }, tt)))) $
-        move ! (1 ∷ 2 ∷ 74 ∷ []) $ use3 W (raw (Touch 𝓤 H A mem run .pre (to w))) (goes-touch 𝓤 H A W mem run κ₂ κ₃ κ₄ κ₅ κ₆ q₂ q₃ q₄ q₅ q₆ o counts rows store free ready owners pool w (rooms .rows) is-c) $
+        assigns ! (of-opd ! (load ! (from ! (fld ! refl (stop !))) (look-in ! 70 (sub ! 1 refl (whole !))))) (from ! (stop !)) (init ! 40 refl (tt, record { fits = rooms .rows .0 })) $
+        assigns ! (addr ! (from ! (fld ! refl (hop ! (look-in ! 68 (sub ! 0 refl (whole !))) (stop !))))) (from ! (stop !)) (init ! 38 refl (tt, tt)) $
+        assigns ! (agg ! (and-then ! (load ! (from ! (stop !)) (look ! 38 refl)) (and-then ! (load ! (from ! (fld ! refl (stop !))) (look-in ! 68 (sub ! 1 refl (whole !)))) (no-more !)))) (from ! (stop !)) (init ! 36 refl (tt, (tt, (record { fits = rooms .store .0 }, tt)))) $
+        assigns ! (addr ! (from ! (fld ! refl (hop ! (look-in ! 66 (sub ! 0 refl (whole !))) (stop !))))) (from ! (stop !)) (init ! 34 refl (tt, tt)) $
+        assigns ! (agg ! (and-then ! (load ! (from ! (stop !)) (look ! 34 refl)) (and-then ! (load ! (from ! (fld ! refl (stop !))) (look-in ! 66 (sub ! 1 refl (whole !)))) (no-more !)))) (from ! (stop !)) (init ! 32 refl (tt, (tt, (record { fits = rooms .free .0 }, tt)))) $
+        assigns ! (addr ! (from ! (fld ! refl (hop ! (look-in ! 64 (sub ! 0 refl (whole !))) (stop !))))) (from ! (stop !)) (init ! 30 refl (tt, tt)) $
+        assigns ! (agg ! (and-then ! (load ! (from ! (stop !)) (look ! 30 refl)) (and-then ! (load ! (from ! (fld ! refl (stop !))) (look-in ! 64 (sub ! 1 refl (whole !)))) (no-more !)))) (from ! (stop !)) (init ! 28 refl (tt, (tt, (record { fits = rooms .ready .0 }, tt)))) $
+        assigns ! (addr ! (from ! (fld ! refl (hop ! (look-in ! 62 (sub ! 0 refl (whole !))) (stop !))))) (from ! (stop !)) (init ! 26 refl (tt, tt)) $
+        assigns ! (agg ! (and-then ! (load ! (from ! (stop !)) (look ! 26 refl)) (and-then ! (load ! (from ! (fld ! refl (stop !))) (look-in ! 62 (sub ! 1 refl (whole !)))) (no-more !)))) (from ! (stop !)) (init ! 24 refl (tt, (tt, (record { fits = rooms .owners .0 }, tt)))) $
+        assigns ! (addr ! (from ! (fld ! refl (hop ! (look-in ! 60 (sub ! 0 refl (whole !))) (stop !))))) (from ! (stop !)) (init ! 22 refl (tt, tt)) $
+        assigns ! (agg ! (and-then ! (load ! (from ! (stop !)) (look ! 22 refl)) (and-then ! (load ! (from ! (fld ! refl (stop !))) (look-in ! 60 (sub ! 1 refl (whole !)))) (no-more !)))) (from ! (stop !)) (init ! 20 refl (tt, (tt, (record { fits = rooms .pool .0 }, tt)))) $
+        move ! (1 ∷ 2 ∷ 78 ∷ []) $ use3 W (raw (Touch 𝓤 H A mem run .pre (to w))) (goes-touch 𝓤 H A W mem run κ₂ κ₃ κ₄ κ₅ κ₆ q₂ q₃ q₄ q₅ q₆ o counts rows store free ready owners pool w (rooms .rows) is-c) $
         -- [what `touch` asks; rows; the counts seen; lent; their token; the locals]
-        calls-at ! fm (Touch 𝓤 H A mem run) known-touch (to w) (and-then ! (load ! (from ! (stop !)) (look ! 69 refl)) (and-then ! (load ! (from ! (stop !)) (look ! 49 refl)) (and-then ! (load ! (from ! (stop !)) (look ! 53 refl)) (and-then ! (load ! (from ! (stop !)) (look ! 35 refl)) (and-then ! (load ! (from ! (stop !)) (look ! 31 refl)) (and-then ! (load ! (from ! (stop !)) (look ! 27 refl)) (and-then ! (load ! (from ! (stop !)) (look ! 23 refl)) (and-then ! (load ! (from ! (stop !)) (look ! 19 refl)) (and-then ! (load ! (from ! (stop !)) (look ! 15 refl)) (no-more !)))))))))) (λ v₁.
+        calls-at ! fm (Touch 𝓤 H A mem run) known-touch (to w) (and-then ! (load ! (from ! (stop !)) (look ! 73 refl)) (and-then ! (load ! (from ! (stop !)) (look ! 53 refl)) (and-then ! (load ! (from ! (stop !)) (look ! 57 refl)) (and-then ! (load ! (from ! (stop !)) (look ! 39 refl)) (and-then ! (load ! (from ! (stop !)) (look ! 35 refl)) (and-then ! (load ! (from ! (stop !)) (look ! 31 refl)) (and-then ! (load ! (from ! (stop !)) (look ! 27 refl)) (and-then ! (load ! (from ! (stop !)) (look ! 23 refl)) (and-then ! (load ! (from ! (stop !)) (look ! 19 refl)) (no-more !)))))))))) (λ v₁.
         use1 W (later (some (TouchGave 𝓤 H A W mem run κ₂ κ₃ κ₄ κ₅ κ₆ q₂ q₃ q₄ q₅ q₆ o counts rows store free ready owners pool v₁))) (touch-comes 𝓤 H A W mem run κ₂ κ₃ κ₄ κ₅ κ₆ q₂ q₃ q₄ q₅ q₆ o counts rows store free ready owners pool w v₁) $ await ! tt $ pick ! (λ x. learn ! (λ did. split ! $
         peeks ! Touched-row (Is Touched-row) (shows 𝓤 H A Touched-row) (x .touched) (v₁ ∷ []) (λ is-t.
-        land ! (from ! (stop !)) (init ! 48 {τ = touched-ty} {b = l₁₂} {o = 0} refl (touched-typed 𝓤 H A W (x .touched) v₁ is-t)) $ rewrite ! 48 (λ (u : Val). ‵ (fat fullShare touched-ty l₁₂ 0 u)) (touched-spelt (x .touched) v₁ is-t) refl $ drop ! $
-        -- [what is left of the parts; rows; the counts seen; lent; their token; the locals]: the rows are passed on to `claim`
-        assigns ! (addr ! (from ! (fld ! refl (hop ! (look-in ! 65 (sub ! 0 refl (whole !))) (stop !))))) (from ! (stop !)) (init ! 11 refl (tt, tt)) $
-        assigns ! (agg ! (and-then ! (load ! (from ! (stop !)) (look ! 11 refl)) (and-then ! (load ! (from ! (fld ! refl (stop !))) (look-in ! 65 (sub ! 1 refl (whole !)))) (no-more !)))) (from ! (stop !)) (init ! 9 refl (tt, (tt, (record { fits = rooms .rows .0 }, tt)))) $
-        move ! (1 ∷ []) $ use1 W (raw (Claim 𝓤 H A mem run .pre (to-claim 𝓤 H A W mem run κ₁ q₁ rows place (x .touched .row)))) (goes-claim 𝓤 H A W mem run κ₁ q₁ rows place (x .touched .row) (is-at .1) (touched-row (x .touched) v₁ is-t)) $
-        calls-at ! fm (Claim 𝓤 H A mem run) known-claim (to-claim 𝓤 H A W mem run κ₁ q₁ rows place (x .touched .row)) (and-then ! (load ! (from ! (stop !)) (look ! 9 refl)) (and-then ! (load ! (from ! (stop !)) (look ! 51 refl)) (and-then ! (load ! (from ! (fld ! {τ = Element.ty} {d = 0} refl (stop !))) (look-in ! 47 {τ = Element.ty} {b = l₁₂} {o = 0} (sub ! {ν = touched-name} {τs = touched-tys} 0 {τ = Element.ty} {d = 0} refl (whole !)))) (no-more !)))) (λ v₂.
-        use1 W (later (some (ClaimGave 𝓤 H A W mem run κ₁ q₁ rows place (x .touched .row) v₂))) (claim-comes 𝓤 H A W mem run κ₁ q₁ rows place (x .touched .row) v₂) $ await ! tt $ pick ! (λ rows′. learn ! (λ claimed. split ! $
-        peeks ! Nothing (Is Nothing) (shows 𝓤 H A Nothing) tt (v₂ ∷ []) (λ is₂. land ! (from ! (stop !)) (init ! 14 refl (nothing-lawful 𝓤 H A W .typed tt _ is₂ .0)) $ drop ! $
+        land ! (from ! (stop !)) (init ! 52 {τ = touched-ty} {b = l₁₂} {o = 0} refl (touched-typed 𝓤 H A W (x .touched) v₁ is-t)) $ rewrite ! 52 (λ (u : Val). ‵ (fat fullShare touched-ty l₁₂ 0 u)) (touched-spelt (x .touched) v₁ is-t) refl $ drop ! $
+        -- [what is left of the parts; rows; the counts seen; lent; their token; the locals]: the rows are lent to `claim`
+        assigns ! (addr ! (from ! (fld ! refl (hop ! (look-in ! 69 (sub ! 0 refl (whole !))) (stop !))))) (from ! (stop !)) (init ! 15 refl (tt, tt)) $
+        assigns ! (agg ! (and-then ! (load ! (from ! (stop !)) (look ! 15 refl)) (and-then ! (load ! (from ! (fld ! refl (stop !))) (look-in ! 69 (sub ! 1 refl (whole !)))) (no-more !)))) (from ! (stop !)) (init ! 13 refl (tt, (tt, (record { fits = rooms .rows .0 }, tt)))) $
+        move ! (1 ∷ []) $ use1 W (later (some (λ (ν′ : ℕ). some (λ (δ′ : GName). LeaseOn R κ₁ q₁ rows 𝓤 ν′ δ′ ⊛ ‵ (KeptOn R κ₁ q₁ rows ν′ δ′))))) (lends-whole R κ₁ q₁ rows 𝓤 H A W (named 1)) $ await ! tt $ pick ! (λ ξ₁. pick ! (λ θ₁. split ! $
+        use1 W (raw (RowsBecome claimedIn 𝓤 H A .pre (to-store 𝓤 H A W claimedIn (ξ₁ ∷ []) fullShare (under rows θ₁) (count rows) place (x .touched .row) (x .touched .frees)))) (goes-store 𝓤 H A W claimedIn (ξ₁ ∷ []) fullShare (under rows θ₁) (count rows) place (x .touched .row) (x .touched .frees) (is-at .1) (touched-row (x .touched) v₁ is-t) (touched-frees (x .touched) v₁ is-t)) $
+        -- [what `claim` asks; what is kept; what is left of the parts; the counts seen; lent; their token; the locals]
+        calls-at ! fm (RowsBecome claimedIn 𝓤 H A) known-claim (to-store 𝓤 H A W claimedIn (ξ₁ ∷ []) fullShare (under rows θ₁) (count rows) place (x .touched .row) (x .touched .frees)) (and-then ! (load ! (from ! (stop !)) (look ! 14 refl)) (and-then ! (load ! (from ! (stop !)) (look ! 56 refl)) (and-then ! (load ! (from ! (fld ! {τ = Element.ty} {d = 0} refl (stop !))) (look-in ! 52 {τ = Element.ty} {b = l₁₂} {o = 0} (sub ! {ν = touched-name} {τs = touched-tys} 0 {τ = Element.ty} {d = 0} refl (whole !)))) (and-then ! (load ! (from ! (fld ! {τ = frees .mir} {d = 113} refl (stop !))) (look-in ! 52 {τ = frees .mir} {b = l₁₂} {o = 113} (sub ! {ν = touched-name} {τs = touched-tys} 2 {τ = frees .mir} {d = 113} refl (whole !)))) (no-more !))))) (λ v₂.
+        use1 W (later (some (StoreGave 𝓤 H A W claimedIn (ξ₁ ∷ []) fullShare (under rows θ₁) (count rows) place (x .touched .row) (x .touched .frees) v₂))) (store-comes 𝓤 H A W claimedIn (ξ₁ ∷ []) fullShare (under rows θ₁) (count rows) place (x .touched .row) (x .touched .frees) v₂) $ await ! tt $ pick ! (λ rows₁. learn ! (λ claimed. split ! $
+        peeks ! Nothing (Is Nothing) (shows 𝓤 H A Nothing) tt (v₂ ∷ []) (λ is₂. land ! (from ! (stop !)) (init ! 19 refl (nothing-lawful 𝓤 H A W .typed tt _ is₂ .0)) $ drop ! $
+        use2 W (later (HeldAt R κ₁ q₁ rows 𝓤 (named 1) rows₁)) (whole-back R κ₁ q₁ rows 𝓤 H A W (named 1) (rooms .rows) ξ₁ θ₁ rows₁ (claimed .1)) $ await ! tt $
+        -- [rows; what is left of the parts; the counts seen; lent; their token; the locals]: and passed on to `release`
+        assigns ! (addr ! (from ! (fld ! refl (hop ! (look-in ! 69 (sub ! 0 refl (whole !))) (stop !))))) (from ! (stop !)) (init ! 11 refl (tt, tt)) $
+        assigns ! (agg ! (and-then ! (load ! (from ! (stop !)) (look ! 11 refl)) (and-then ! (load ! (from ! (fld ! refl (stop !))) (look-in ! 69 (sub ! 1 refl (whole !)))) (no-more !)))) (from ! (stop !)) (init ! 9 refl (tt, (tt, (record { fits = rooms .rows .0 }, tt)))) $
+        use1 W (raw (RowsBecome releasedIn 𝓤 H A .pre (to-store 𝓤 H A W releasedIn κ₁ q₁ (changed R κ₁ q₁ rows rows₁) (count rows) place (x .touched .row) (x .touched .frees)))) (goes-store 𝓤 H A W releasedIn κ₁ q₁ (changed R κ₁ q₁ rows rows₁) (count rows) place (x .touched .row) (x .touched .frees) (is-at .1) (touched-row (x .touched) v₁ is-t) (touched-frees (x .touched) v₁ is-t)) $
+        calls-at ! fm (RowsBecome releasedIn 𝓤 H A) known-row-release (to-store 𝓤 H A W releasedIn κ₁ q₁ (changed R κ₁ q₁ rows rows₁) (count rows) place (x .touched .row) (x .touched .frees)) (and-then ! (load ! (from ! (stop !)) (look ! 9 refl)) (and-then ! (load ! (from ! (stop !)) (look ! 55 refl)) (and-then ! (load ! (from ! (fld ! {τ = Element.ty} {d = 0} refl (stop !))) (look-in ! 51 {τ = Element.ty} {b = l₁₂} {o = 0} (sub ! {ν = touched-name} {τs = touched-tys} 0 {τ = Element.ty} {d = 0} refl (whole !)))) (and-then ! (load ! (from ! (fld ! {τ = frees .mir} {d = 113} refl (stop !))) (look-in ! 51 {τ = frees .mir} {b = l₁₂} {o = 113} (sub ! {ν = touched-name} {τs = touched-tys} 2 {τ = frees .mir} {d = 113} refl (whole !)))) (no-more !))))) (λ v₃.
+        use1 W (later (some (StoreGave 𝓤 H A W releasedIn κ₁ q₁ (changed R κ₁ q₁ rows rows₁) (count rows) place (x .touched .row) (x .touched .frees) v₃))) (store-comes 𝓤 H A W releasedIn κ₁ q₁ (changed R κ₁ q₁ rows rows₁) (count rows) place (x .touched .row) (x .touched .frees) v₃) $ await ! tt $ pick ! (λ rows′. learn ! (λ row-released. split ! $
+        peeks ! Nothing (Is Nothing) (shows 𝓤 H A Nothing) tt (v₃ ∷ []) (λ is₃. land ! (from ! (stop !)) (stores ! 18 refl (nothing-lawful 𝓤 H A W .typed tt _ is₃ .0)) $ drop ! $
         -- [what is left of the rows; of the parts; the counts seen; lent; their token; the locals]: the counts are lent to `accept`
-        assigns ! (addr ! (from ! (hop ! (look ! 67 refl) (stop !)))) (from ! (stop !)) (init ! 7 refl (tt, tt)) $
+        assigns ! (addr ! (from ! (hop ! (look ! 71 refl) (stop !)))) (from ! (stop !)) (init ! 7 refl (tt, tt)) $
         move ! (2 ∷ 3 ∷ 4 ∷ []) $ feqI ! (List Val) (pointer counts ∷ []) (pointer counts ∷ []) refl $ fjoin3 ! $
         use2 W (later (some (λ (ν′ : ℕ). some (λ (δ′ : GName). Borrowed N κ₀ q₀ counts 𝓤 ν′ δ′ ⊛ ‵ (Aside N κ₀ q₀ counts ν′ δ′))))) (lends-on N κ₀ q₀ counts 𝓤 H A W (named 0)) $ await ! tt $ pick ! (λ ξ. pick ! (λ θ. split ! $
         use1 W (raw (Becomes flag acceptedIf 𝓤 H A .pre (to-become 𝓤 H A W flag acceptedIf (ξ ∷ []) fullShare (renamed counts θ) (x .touched .accepts)))) (goes-become 𝓤 H A W flag acceptedIf (ξ ∷ []) fullShare (renamed counts θ) (x .touched .accepts) refl) $
         -- [what `accept` asks; what is kept; what is left of the rows; of the parts; the locals]
-        calls-at ! fm (Becomes flag acceptedIf 𝓤 H A) known-accept (to-become 𝓤 H A W flag acceptedIf (ξ ∷ []) fullShare (renamed counts θ) (x .touched .accepts)) (and-then ! (load ! (from ! (stop !)) (look ! 6 refl)) (and-then ! (load ! (from ! (fld ! {τ = tyBool} {d = 112} refl (stop !))) (look-in ! 46 {τ = tyBool} {b = l₁₂} {o = 112} (sub ! {ν = touched-name} {τs = touched-tys} 1 {τ = tyBool} {d = 112} refl (whole !)))) (no-more !))) (λ v₃.
-        use1 W (later (some (BecomeGave 𝓤 H A W flag acceptedIf (ξ ∷ []) fullShare (renamed counts θ) (x .touched .accepts) v₃))) (become-comes 𝓤 H A W flag acceptedIf (ξ ∷ []) fullShare (renamed counts θ) (x .touched .accepts) v₃) $ await ! tt $ pick ! (λ c₁. learn ! (λ accepted. split ! $
-        peeks ! Nothing (Is Nothing) (shows 𝓤 H A Nothing) tt (v₃ ∷ []) (λ is₃. land ! (from ! (stop !)) (stores ! 13 refl (nothing-lawful 𝓤 H A W .typed tt _ is₃ .0)) $ drop ! $
+        calls-at ! fm (Becomes flag acceptedIf 𝓤 H A) known-accept (to-become 𝓤 H A W flag acceptedIf (ξ ∷ []) fullShare (renamed counts θ) (x .touched .accepts)) (and-then ! (load ! (from ! (stop !)) (look ! 6 refl)) (and-then ! (load ! (from ! (fld ! {τ = tyBool} {d = 112} refl (stop !))) (look-in ! 50 {τ = tyBool} {b = l₁₂} {o = 112} (sub ! {ν = touched-name} {τs = touched-tys} 1 {τ = tyBool} {d = 112} refl (whole !)))) (no-more !))) (λ v₄.
+        use1 W (later (some (BecomeGave 𝓤 H A W flag acceptedIf (ξ ∷ []) fullShare (renamed counts θ) (x .touched .accepts) v₄))) (become-comes 𝓤 H A W flag acceptedIf (ξ ∷ []) fullShare (renamed counts θ) (x .touched .accepts) v₄) $ await ! tt $ pick ! (λ c₁. learn ! (λ accepted. split ! $
+        peeks ! Nothing (Is Nothing) (shows 𝓤 H A Nothing) tt (v₄ ∷ []) (λ is₄. land ! (from ! (stop !)) (stores ! 17 refl (nothing-lawful 𝓤 H A W .typed tt _ is₄ .0)) $ drop ! $
         use2 W (later (Held N κ₀ q₀ counts 𝓤 (named 0) c₁)) (back-at N κ₀ q₀ counts 𝓤 H A W (named 0) ξ θ c₁) $ await ! tt $
         -- [the counts; what is left of the rows; of the parts; the locals]: and passed on to `release`
-        assigns ! (addr ! (from ! (hop ! (look ! 65 refl) (stop !)))) (from ! (stop !)) (init ! 3 refl (tt, tt)) $
+        assigns ! (addr ! (from ! (hop ! (look ! 69 refl) (stop !)))) (from ! (stop !)) (init ! 3 refl (tt, tt)) $
         use1 W (raw (Becomes frees releasedBy 𝓤 H A .pre (to-become 𝓤 H A W frees releasedBy κ₀ q₀ (counted c₁) (x .touched .frees)))) (goes-become 𝓤 H A W frees releasedBy κ₀ q₀ (counted c₁) (x .touched .frees) (touched-frees (x .touched) v₁ is-t)) $
-        calls-at ! fm (Becomes frees releasedBy 𝓤 H A) known-release (to-become 𝓤 H A W frees releasedBy κ₀ q₀ (counted c₁) (x .touched .frees)) (and-then ! (load ! (from ! (stop !)) (look ! 3 refl)) (and-then ! (load ! (from ! (fld ! {τ = frees .mir} {d = 113} refl (stop !))) (look-in ! 45 {τ = frees .mir} {b = l₁₂} {o = 113} (sub ! {ν = touched-name} {τs = touched-tys} 2 {τ = frees .mir} {d = 113} refl (whole !)))) (no-more !))) (λ v₄.
-        use1 W (later (some (BecomeGave 𝓤 H A W frees releasedBy κ₀ q₀ (counted c₁) (x .touched .frees) v₄))) (become-comes 𝓤 H A W frees releasedBy κ₀ q₀ (counted c₁) (x .touched .frees) v₄) $ await ! tt $ pick ! (λ c′. learn ! (λ released. split ! $
-        peeks ! Nothing (Is Nothing) (shows 𝓤 H A Nothing) tt (v₄ ∷ []) (λ is₄. land ! (from ! (stop !)) (stores ! 12 refl (nothing-lawful 𝓤 H A W .typed tt _ is₄ .0)) $ drop ! $
+        calls-at ! fm (Becomes frees releasedBy 𝓤 H A) known-release (to-become 𝓤 H A W frees releasedBy κ₀ q₀ (counted c₁) (x .touched .frees)) (and-then ! (load ! (from ! (stop !)) (look ! 3 refl)) (and-then ! (load ! (from ! (fld ! {τ = frees .mir} {d = 113} refl (stop !))) (look-in ! 49 {τ = frees .mir} {b = l₁₂} {o = 113} (sub ! {ν = touched-name} {τs = touched-tys} 2 {τ = frees .mir} {d = 113} refl (whole !)))) (no-more !))) (λ v₅.
+        use1 W (later (some (BecomeGave 𝓤 H A W frees releasedBy κ₀ q₀ (counted c₁) (x .touched .frees) v₅))) (become-comes 𝓤 H A W frees releasedBy κ₀ q₀ (counted c₁) (x .touched .frees) v₅) $ await ! tt $ pick ! (λ c′. learn ! (λ released. split ! $
+        peeks ! Nothing (Is Nothing) (shows 𝓤 H A Nothing) tt (v₅ ∷ []) (λ is₅. land ! (from ! (stop !)) (stores ! 16 refl (nothing-lawful 𝓤 H A W .typed tt _ is₅ .0)) $ drop ! $
         -- [what is left of the counts; of the rows; of the parts; the locals]: the reply is returned
-        assigns ! (of-opd ! (load ! (from ! (fld ! {τ = reply-ty} {d = 120} refl (stop !))) (look-in ! 45 {τ = reply-ty} {b = l₁₂} {o = 120} (sub ! {ν = touched-name} {τs = touched-tys} 3 {τ = reply-ty} {d = 120} refl (whole !))))) (from ! (stop !)) (init ! 69 {τ = reply-ty} {b = l₀} {o = 0} refl (reply-typed 𝓤 H A W (x .touched .reply) _ (touched-reply (x .touched) v₁ is-t))) $
-        returns ! (look ! 69 refl) $ forget ! 3 refl $ forget ! 5 refl $ forget ! 7 refl $ forget ! 9 refl $ forget ! 11 refl $ forget ! 13 refl $ forget ! 15 refl $ forget ! 17 refl $ forget ! 19 refl $ forget ! 21 refl $ forget ! 23 refl $ forget ! 25 refl $ forget ! 27 refl $ forget ! 29 refl $ forget ! 31 refl $ forget ! 33 refl $ forget ! 35 refl $ forget ! 37 refl $ forget ! 39 refl $ forget ! 41 refl $ forget ! 43 refl $ forget ! 45 {τ = touched-ty} refl $ forget ! 47 {τ = Element.ty} refl $ forget ! 49 refl $ forget ! 51 {τ = Tally.ty} refl $ forget ! 53 refl $ forget ! 55 refl $ forget ! 57 refl $ forget ! 59 refl $ forget ! 61 refl $ forget ! 63 refl $ forget ! 65 refl $ forget ! 67 {τ = call-ty} refl $ forget ! 69 {τ = reply-ty} refl $
-        move ! (69 ∷ 70 ∷ []) $ free1 ! $ move ! (67 ∷ 68 ∷ []) $ free1 ! $ move ! (65 ∷ 66 ∷ []) $ free1 ! $ move ! (63 ∷ 64 ∷ []) $ free1 ! $ move ! (61 ∷ 62 ∷ []) $ free1 ! $ move ! (59 ∷ 60 ∷ []) $ free1 ! $ move ! (57 ∷ 58 ∷ []) $ free1 ! $ move ! (55 ∷ 56 ∷ []) $ free1 ! $ move ! (53 ∷ 54 ∷ []) $ free1 ! $ move ! (51 ∷ 52 ∷ []) $ free1 ! $ move ! (49 ∷ 50 ∷ []) $ free1 ! $ move ! (47 ∷ 48 ∷ []) $ free1 ! $ move ! (45 ∷ 46 ∷ []) $ free1 ! $ move ! (43 ∷ 44 ∷ []) $ free1 ! $ move ! (41 ∷ 42 ∷ []) $ free1 ! $ move ! (39 ∷ 40 ∷ []) $ free1 ! $ move ! (37 ∷ 38 ∷ []) $ free1 ! $ move ! (35 ∷ 36 ∷ []) $ free1 ! $ move ! (33 ∷ 34 ∷ []) $ free1 ! $ move ! (31 ∷ 32 ∷ []) $ free1 ! $ move ! (29 ∷ 30 ∷ []) $ free1 ! $ move ! (27 ∷ 28 ∷ []) $ free1 ! $ move ! (25 ∷ 26 ∷ []) $ free1 ! $ move ! (23 ∷ 24 ∷ []) $ free1 ! $ move ! (21 ∷ 22 ∷ []) $ free1 ! $ move ! (19 ∷ 20 ∷ []) $ free1 ! $ move ! (17 ∷ 18 ∷ []) $ free1 ! $ move ! (15 ∷ 16 ∷ []) $ free1 ! $ move ! (13 ∷ 14 ∷ []) $ free1 ! $ move ! (11 ∷ 12 ∷ []) $ free1 ! $ move ! (9 ∷ 10 ∷ []) $ free1 ! $ move ! (7 ∷ 8 ∷ []) $ free1 ! $ move ! (5 ∷ 6 ∷ []) $ free1 ! $ move ! (3 ∷ 4 ∷ []) $ free1 ! $ free0 ! $
-        by ! (exits x rows′ c′ did claimed (released ∙ ap (releasedBy (x .touched .frees)) accepted) (touched-reply (x .touched) v₁ is-t)))))))))))))))))))))))))))))))))))))))))))))))))))))))))))))))))
+        assigns ! (of-opd ! (load ! (from ! (fld ! {τ = reply-ty} {d = 120} refl (stop !))) (look-in ! 49 {τ = reply-ty} {b = l₁₂} {o = 120} (sub ! {ν = touched-name} {τs = touched-tys} 3 {τ = reply-ty} {d = 120} refl (whole !))))) (from ! (stop !)) (init ! 73 {τ = reply-ty} {b = l₀} {o = 0} refl (reply-typed 𝓤 H A W (x .touched .reply) _ (touched-reply (x .touched) v₁ is-t))) $
+        returns ! (look ! 73 refl) $ forget ! 3 refl $ forget ! 5 refl $ forget ! 7 refl $ forget ! 9 refl $ forget ! 11 refl $ forget ! 13 refl $ forget ! 15 refl $ forget ! 17 refl $ forget ! 19 refl $ forget ! 21 refl $ forget ! 23 refl $ forget ! 25 refl $ forget ! 27 refl $ forget ! 29 refl $ forget ! 31 refl $ forget ! 33 refl $ forget ! 35 refl $ forget ! 37 refl $ forget ! 39 refl $ forget ! 41 refl $ forget ! 43 refl $ forget ! 45 refl $ forget ! 47 refl $ forget ! 49 {τ = touched-ty} refl $ forget ! 51 {τ = Element.ty} refl $ forget ! 53 refl $ forget ! 55 {τ = Tally.ty} refl $ forget ! 57 refl $ forget ! 59 refl $ forget ! 61 refl $ forget ! 63 refl $ forget ! 65 refl $ forget ! 67 refl $ forget ! 69 refl $ forget ! 71 {τ = call-ty} refl $ forget ! 73 {τ = reply-ty} refl $
+        move ! (73 ∷ 74 ∷ []) $ free1 ! $ move ! (71 ∷ 72 ∷ []) $ free1 ! $ move ! (69 ∷ 70 ∷ []) $ free1 ! $ move ! (67 ∷ 68 ∷ []) $ free1 ! $ move ! (65 ∷ 66 ∷ []) $ free1 ! $ move ! (63 ∷ 64 ∷ []) $ free1 ! $ move ! (61 ∷ 62 ∷ []) $ free1 ! $ move ! (59 ∷ 60 ∷ []) $ free1 ! $ move ! (57 ∷ 58 ∷ []) $ free1 ! $ move ! (55 ∷ 56 ∷ []) $ free1 ! $ move ! (53 ∷ 54 ∷ []) $ free1 ! $ move ! (51 ∷ 52 ∷ []) $ free1 ! $ move ! (49 ∷ 50 ∷ []) $ free1 ! $ move ! (47 ∷ 48 ∷ []) $ free1 ! $ move ! (45 ∷ 46 ∷ []) $ free1 ! $ move ! (43 ∷ 44 ∷ []) $ free1 ! $ move ! (41 ∷ 42 ∷ []) $ free1 ! $ move ! (39 ∷ 40 ∷ []) $ free1 ! $ move ! (37 ∷ 38 ∷ []) $ free1 ! $ move ! (35 ∷ 36 ∷ []) $ free1 ! $ move ! (33 ∷ 34 ∷ []) $ free1 ! $ move ! (31 ∷ 32 ∷ []) $ free1 ! $ move ! (29 ∷ 30 ∷ []) $ free1 ! $ move ! (27 ∷ 28 ∷ []) $ free1 ! $ move ! (25 ∷ 26 ∷ []) $ free1 ! $ move ! (23 ∷ 24 ∷ []) $ free1 ! $ move ! (21 ∷ 22 ∷ []) $ free1 ! $ move ! (19 ∷ 20 ∷ []) $ free1 ! $ move ! (17 ∷ 18 ∷ []) $ free1 ! $ move ! (15 ∷ 16 ∷ []) $ free1 ! $ move ! (13 ∷ 14 ∷ []) $ free1 ! $ move ! (11 ∷ 12 ∷ []) $ free1 ! $ move ! (9 ∷ 10 ∷ []) $ free1 ! $ move ! (7 ∷ 8 ∷ []) $ free1 ! $ move ! (5 ∷ 6 ∷ []) $ free1 ! $ move ! (3 ∷ 4 ∷ []) $ free1 ! $ free0 ! $
+        by ! (exits x rows′ c′ did (rows-claimed o counts rows store free ready owners pool x rows₁ rows′ claimed row-released) (released ∙ ap (releasedBy (x .touched .frees)) accepted) (touched-reply (x .touched) v₁ is-t)))))))))))))))))))))))))))))))))))))))))))))))))))))))))))))))))))))))))
 
 module _ {M : Type 1} (𝓤 : URA M) (H : Heap 𝓤) (A : Atoms 𝓤) (W : Given 𝓤 H A) (mem : Memory → SProp 𝓤) (run : Routine → Fun 𝓤) (𝓣 : Tables 𝓤 H) (k₁ : Triple 𝓤 (𝓣 .C #called·place) (Place 𝓤 H A mem run)) (k₂ : Triple 𝓤 (𝓣 .C #rows·find) (Find 𝓤 H A mem run))
-    (k₃ : Triple 𝓤 (𝓣 .C #queuecore·touch) (Touch 𝓤 H A mem run)) (k₄ : Triple 𝓤 (𝓣 .C #rows·claim) (Claim 𝓤 H A mem run)) (k₅ : Triple 𝓤 (𝓣 .C #counts·accept) (Becomes flag acceptedIf 𝓤 H A))
-    (k₆ : Triple 𝓤 (𝓣 .C #counts·release) (Becomes frees releasedBy 𝓤 H A)) where
+    (k₃ : Triple 𝓤 (𝓣 .C #queuecore·touch) (Touch 𝓤 H A mem run)) (k₄ : Triple 𝓤 (𝓣 .C #rows·claim) (RowsBecome claimedIn 𝓤 H A)) (k₅ : Triple 𝓤 (𝓣 .C #rows·release) (RowsBecome releasedIn 𝓤 H A))
+    (k₆ : Triple 𝓤 (𝓣 .C #counts·accept) (Becomes flag acceptedIf 𝓤 H A)) (k₇ : Triple 𝓤 (𝓣 .C #counts·release) (Becomes frees releasedBy 𝓤 H A)) where
   self-walks : Walks 𝓤 H A self.ended stayed (WpFn 𝓤 H (𝓣 .C) (𝓣 .Λ) code.function) (self.clauses 𝓤 H A mem run)
   self-walks =
       walked 𝓤 H A self.ended stayed (self.clauses 𝓤 H A mem run) (WpFn 𝓤 H (𝓣 .C) (𝓣 .Λ) code.function) (λ κs. (call-vals, (ptr-vals, (slice-vals, (slice-vals, (slice-vals, (slice-vals, (slice-vals, (slice-vals, tt)))))))))
@@ -281,7 +296,7 @@ module _ {M : Type 1} (𝓤 : URA M) (H : Heap 𝓤) (A : Atoms 𝓤) (W : Given
       ))
       (λ κs qs bounds a g are. via 𝓤 _ (fst∗ 𝓤 _ (emp 𝓤))
       (walk 𝓤 H A W mem run (κs .0) (κs .1 .0) (κs .1 .1 .0) (κs .1 .1 .1 .0) (κs .1 .1 .1 .1 .0) (κs .1 .1 .1 .1 .1 .0) (κs .1 .1 .1 .1 .1 .1 .0) (qs .0) (qs .1 .0) (qs .1 .1 .0) (qs .1 .1 .1 .0) (qs .1 .1 .1 .1 .0) (qs .1 .1 .1 .1 .1 .0) (qs .1 .1 .1 .1 .1 .1 .0)
-      (a .0) (a .1 .0) (a .1 .1 .0) (a .1 .1 .1 .0) (a .1 .1 .1 .1 .0) (a .1 .1 .1 .1 .1 .0) (a .1 .1 .1 .1 .1 .1 .0) (a .1 .1 .1 .1 .1 .1 .1 .0) (𝓣 .C) (𝓣 .Λ) (fmOf 𝓤 H (W .laws) 𝓣) k₁ k₂ k₃ k₄ k₅ k₆
+      (a .0) (a .1 .0) (a .1 .1 .0) (a .1 .1 .1 .0) (a .1 .1 .1 .1 .0) (a .1 .1 .1 .1 .1 .0) (a .1 .1 .1 .1 .1 .1 .0) (a .1 .1 .1 .1 .1 .1 .1 .0) (𝓣 .C) (𝓣 .Λ) (fmOf 𝓤 H (W .laws) 𝓣) k₁ k₂ k₃ k₄ k₅ k₆ k₇
       (record { rows = are .1 .1 .0 .0 .1; store = are .1 .1 .1 .0 .0 .1; free = are .1 .1 .1 .1 .0 .0 .1; ready = are .1 .1 .1 .1 .1 .0 .0 .1; owners = are .1 .1 .1 .1 .1 .1 .0 .0 .1; pool = are .1 .1 .1 .1 .1 .1 .1 .0 .0 .1 }) (are .0)))
 
   self-meets : Meets 𝓤 H A self.signature (WpFn 𝓤 H (𝓣 .C) (𝓣 .Λ) code.function) (self.spec 𝓤 H A mem run)
@@ -310,6 +325,7 @@ call-spec 𝓤 H 𝓜 𝓖 𝓡 =
     (cited 𝓤 H (Place 𝓤 H (𝓖 .A) (𝓜 .mem) (𝓡 .run)) 𝓜 𝓡 code.env #called·place place-def.routine code.calls-called·place (place-thm.met 𝓤 H 𝓜 𝓖 𝓡))
     (cited 𝓤 H (Find 𝓤 H (𝓖 .A) (𝓜 .mem) (𝓡 .run)) 𝓜 𝓡 code.env #rows·find find-def.routine code.calls-rows·find (find-thm.met 𝓤 H 𝓜 𝓖 𝓡))
     (cited 𝓤 H (Touch 𝓤 H (𝓖 .A) (𝓜 .mem) (𝓡 .run)) 𝓜 𝓡 code.env #queuecore·touch touch-def.routine code.calls-queuecore·touch (touch-thm.met 𝓤 H 𝓜 𝓖 𝓡))
-    (cited 𝓤 H (Claim 𝓤 H (𝓖 .A) (𝓜 .mem) (𝓡 .run)) 𝓜 𝓡 code.env #rows·claim claim-def.routine code.calls-rows·claim (claim-thm.met 𝓤 H 𝓜 𝓖 𝓡))
+    (cited 𝓤 H (RowsBecome claimedIn 𝓤 H (𝓖 .A)) 𝓜 𝓡 code.env #rows·claim claim-def.routine code.calls-rows·claim (claim-thm.met 𝓤 H 𝓜 𝓖 𝓡))
+    (cited 𝓤 H (RowsBecome releasedIn 𝓤 H (𝓖 .A)) 𝓜 𝓡 code.env #rows·release row-release-def.routine code.calls-rows·release (row-release-thm.met 𝓤 H 𝓜 𝓖 𝓡))
     (cited 𝓤 H (Becomes flag acceptedIf 𝓤 H (𝓖 .A)) 𝓜 𝓡 code.env #counts·accept accept-def.routine code.calls-counts·accept (accept-thm.met 𝓤 H 𝓜 𝓖 𝓡))
     (cited 𝓤 H (Becomes frees releasedBy 𝓤 H (𝓖 .A)) 𝓜 𝓡 code.env #counts·release release-def.routine code.calls-counts·release (release-thm.met 𝓤 H 𝓜 𝓖 𝓡)))
