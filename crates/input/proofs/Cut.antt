@@ -7,15 +7,12 @@ use native.Mathlib.Numerals.{add-one}
 use native.Mathlib.Omega.{arith}
 use lib.ListN.{length, take, drop, getD, length-append, drop-of-length-le}
 use lib.Seq.{drop-cons}
-use lib.Dec.{T, ltb, eqb}
+use lib.Dec.{ltb, eqb}
 use borrow.Author.Tests.{lt-ltb, le-ltb, eq-eqb, ne-eqb}
 use Rattle.trace.specs.declared.Reader.{Reader}
 use Rattle.trace.specs.Trace.{Kept}
 use Rattle.input.specs.declared.Input.{Input}
 use Rattle.input.specs.Input.{upTo, hasEnd, past, Scanned, Fresh}
-
-pub not-both : {a : Bool} → a ≡ true → a ≡ false → ⊥
-not-both t f = subst T f (subst T (sym t) tt)
 
 -- a reader keeps a byte of every line that has one
 pub some-kept : (n m : ℕ) → n ≡ min 4096 m → ltb 0 n ≡ ltb 0 m

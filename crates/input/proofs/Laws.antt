@@ -6,7 +6,7 @@ use Prim.Native.Nat.{ℕ, suc, _+_}
 use native.Mathlib.Omega.{arith}
 use lib.ListN.{length, drop}
 use lib.Dec.{eqb}
-use Rattle.input.proofs.Cut.{not-both}
+use Rattle.layout.proofs.Tests.{not-both}
 use Rattle.input.specs.Input.{upTo, hasEnd, behind, past, linesFrom, InputLaws}
 
 -- by whether the first byte is an LF

@@ -8,7 +8,8 @@ use Rattle.model.specs.declared.Counts.{Counts}
 use Rattle.model.specs.declared.Row.{Row}
 use Rattle.called.specs.Called.{lentOf}
 use Rattle.lineforms.specs.declared.Said.{Said}
-use Rattle.tablelines.specs.Table.{Held, heldOf, Answers}
+use Rattle.asklines.specs.Asking.{Held, heldOf}
+use Rattle.tablelines.specs.Table.{Answers}
 use Rattle.unopened.specs.declared.Stage.the-variants.{Table}
 use Rattle.unopened.specs.Unopened.{Stood, stoodAt}
 use Rattle.opened.specs.Opened.{partOf, joined, TableLine}

@@ -7,7 +7,8 @@ use Rattle.called.specs.Called.{lentOf}
 use Rattle.lineforms.specs.declared.Said.{Said}
 use Rattle.lineforms.specs.declared.Said.the-variants.{Comment, Call, Own, Count, Look, Len, Fill, Sum, Rows, Bad}
 use Rattle.texts.specs.Texts.{badText}
-use Rattle.tablelines.specs.Table.{Held, heldOf, Answers}
+use Rattle.asklines.specs.Asking.{Held, heldOf}
+use Rattle.tablelines.specs.Table.{Answers}
 use Rattle.unopened.specs.declared.Stage.the-variants.{Table}
 use Rattle.unopened.specs.Unopened.{Stood, stoodAt, noText13}
 

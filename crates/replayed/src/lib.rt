@@ -1,5 +1,8 @@
 // A trace, as far as it was read and answered: what the programs replay and lists share. How a line is answered stands in the crate replaying; here the memory is
 // lent, and the answer printed.
+ghost use mathlib.Core.Path.{_≡_};
+ghost use Rattle.model.specs.Laws.{fresh};
+ghost use Rattle.replayed.specs.Replayed.{standing, Answers, Turned, overAt};
 use input::Input;
 use model::Counts;
 use model::Row;
@@ -29,7 +32,9 @@ pub fn answer(
     ready: &mut [u64],
     owners: &mut [u64],
     pool: &mut [u8; 1048576],
-) -> Running {
+) -> Running
+    ensures { λ r′. ⌜ Answers r r′ (now (line .entry)) (standing r (now (plan .entry)) (now (store .entry)) (now (free .entry)) (now (ready .entry)) (now (owners .entry)) (now (pool .entry))) (standing r′ (now (plan .exit)) (now (store .exit)) (now (free .exit)) (now (ready .exit)) (now (owners .exit)) (now (pool .exit))) ⌝ }
+{
     let mut out = [0u8; 4096];
     let from = r.from;
     let stage = r.stage;
@@ -66,7 +71,9 @@ pub fn answer(
 }
 
 // The same, further in the input.
-pub fn moved(r: Running, from: Input) -> Running {
+pub fn moved(r: Running, from: Input) -> Running
+    ensures { λ r′. ⌜ (r′ .from ≡ from) × ((r′ .stage ≡ r .stage) × ((r′ .rows ≡ r .rows) × ((r′ .counts ≡ r .counts) × (r′ .flushes ≡ r .flushes)))) ⌝ }
+{
     let stage = r.stage;
     let rows = r.rows;
     let counts = r.counts;
@@ -80,7 +87,9 @@ pub fn moved(r: Running, from: Input) -> Running {
 }
 
 // Before the first line of a trace.
-pub fn begun(from: Input) -> Running {
+pub fn begun(from: Input) -> Running
+    ensures { λ r. ⌜ (r .stage ≡ Stage.Before) × ((r .counts ≡ fresh) × ((r .flushes ≡ 0) × (r .from ≡ from))) ⌝ }
+{
     Running {
         stage: Stage::Before,
         rows: [optable::freed_row(0); 64],
@@ -105,7 +114,9 @@ pub fn turn(
     ready: &mut [u64],
     owners: &mut [u64],
     pool: &mut [u8; 1048576],
-) -> Running {
+) -> Running
+    ensures { λ r′. ⌜ Turned r r′ (now (line .entry)) (now (line .exit)) (now (chunk .entry)) (now (chunk .exit)) (standing r (now (plan .entry)) (now (store .entry)) (now (free .entry)) (now (ready .entry)) (now (owners .entry)) (now (pool .entry))) (standing r′ (now (plan .exit)) (now (store .exit)) (now (free .exit)) (now (ready .exit)) (now (owners .exit)) (now (pool .exit))) ⌝ }
+{
     let was = r.from;
     let from = input::next(was, line, chunk);
     let now = moved(r, from);
@@ -116,7 +127,9 @@ pub fn turn(
 }
 
 // Whether the program ends: at the end of the input, or "prints `limit`, and the program ends".
-pub fn over(stage: Stage, from: Input) -> bool {
+pub fn over(stage: Stage, from: Input) -> bool
+    ensures { λ r. ⌜ r ≡ overAt stage (from .ended) ⌝ }
+{
     match stage {
         Stage::Over => true,
         _ => from.ended,

@@ -2,62 +2,20 @@
 use mathlib.Core.Path.{_≡_}
 use mathlib.Core.List.{List, []}
 use Prim.Native.Nat.{ℕ, _-_}
-use lib.ListN.{length, getD, take}
+use lib.ListN.{length, take}
 use Rattle.completion.specs.declared.Reply.{Reply}
 use Rattle.model.specs.declared.Counts.{Counts}
-use Rattle.model.specs.declared.Call.{Call}
-use Rattle.model.specs.declared.Call.the-variants.{Write, ReadPage, Answer, Flushed, Take, SetGate, SetReadOnly, SetForced, ReportPoison}
 use Rattle.model.specs.declared.Lookup.{Lookup}
 use Rattle.model.specs.declared.Lookup.the-variants.{WritesLive}
 use Rattle.model.specs.Memory.{Lent}
-use Rattle.called.specs.Called.{lentOf, CallsTo, LooksTo}
+use Rattle.called.specs.Called.{lentOf, LooksTo}
 use Rattle.lineforms.specs.declared.Said.{Said}
 use Rattle.lineforms.specs.declared.Said.the-variants.{Comment, Call as callSaid, Own, Count, Look, Len, Fill, Sum, Rows, Bad}
-use Rattle.linecalls.specs.declared.Named.{Named}
-use Rattle.linecalls.specs.declared.Asks.{Asks}
-use Rattle.linecalls.specs.declared.Asks.the-variants.{Nothing, Call as calls, Other}
 use Rattle.linecalls.specs.Asks.{asksOf}
 use Rattle.texts.specs.Texts.{badText}
 use Rattle.replytexts.specs.Replay.{replayText}
+use Rattle.asklines.specs.Asking.{Held, namedIn, Still, Ran, Asked}
 use Rattle.hostlines.specs.Host.{FillsIn, summed, ListsIn}
-
--- what stands between two lines: "the flush count last given, 0 at first", the counts, and what is lent
-pub record Held : Type 0 where
-  pub flushes : ℕ
-  pub counts : Counts
-  pub lent : Lent
-
-abbrev pub heldOf : ℕ → Counts → Lent → Held
-heldOf flushes counts lent = record { flushes = flushes; counts = counts; lent = lent }
-
--- "handle 0, with its own volume, id and generation": of the table's words (the model's Memory) the volume is the 8th, region 0's id and generation the
--- 48th and the 49th
-unfoldable pub namedIn : List ℕ → Named
-namedIn store = record { volume = getD store 8 0; region = getD store 48 0; generation = getD store 49 0 }
-
--- "the flush count last given": `A QTAG FLUSHES BACK ..` gives one
-unfoldable pub givenBy : Call → ℕ → ℕ
-givenBy (Write q) n = n
-givenBy (ReadPage q) n = n
-givenBy (Answer t a back flushes) n = flushes
-givenBy (Flushed t f) n = n
-givenBy Take n = n
-givenBy (SetGate h g) n = n
-givenBy (SetReadOnly h b) n = n
-givenBy (SetForced h b) n = n
-givenBy (ReportPoison c) n = n
-
--- nothing is changed, and this is printed
-pub record Still (h h′ : Held) (text said : List ℕ) : Type 0 where
-  pub held : h′ ≡ h
-  pub prints : text ≡ said
-
--- a call is made, and its reply printed
-pub record Ran (call : Call) (h h′ : Held) (text : List ℕ) : Type 0 where
-  pub reply : Reply
-  pub called : CallsTo call (h .counts) (h .lent) reply (h′ .counts) (h′ .lent)
-  pub flushes : h′ .flushes ≡ givenBy call (h .flushes)
-  pub prints : text ≡ replayText reply
 
 -- a lookup is made over what is lent, and its reply printed
 pub record LooksAs (x : Lookup) (c : Counts) (lent : Lent) (text : List ℕ) : Type 0 where
@@ -88,12 +46,6 @@ Fills b at n seed number h h′ text =
 -- `rows` (hostlines)
 abbrev pub Lists : Held → Held → List ℕ → Type 0
 Lists h h′ text = (h′ ≡ h) × ListsIn (h .counts) (h .lent .rows) (h .lent .store) (h .lent .free) text
-
--- what a line of calls asks for: "A line that starts with `#` is passed over"; another form "prints `bad` and its number in the file, from 1, and changes nothing"
-unfoldable pub Asked : Asks → ℕ → Held → Held → List ℕ → Type 0
-Asked Nothing number h h′ text = Still h h′ text []
-Asked (calls c) number h h′ text = Ran c h h′ text
-Asked Other number h h′ text = Still h h′ text (badText number)
 
 -- a line's answer; `a`, `w` and `r` ask for the call that the last flush count and handle 0 make of them
 unfoldable pub Answers : Said → ℕ → Held → Held → List ℕ → Type 0

@@ -1,14 +1,151 @@
 // A line of an open table is answered: the call, the lookup or what the host does, and the line that is printed.
-mod table;
-
+ghost use mathlib.Core.Path.{_≡_};
+ghost use Prim.Native.Nat.{_-_, _≤_};
+ghost use lib.ListN.{take};
+ghost use Rattle.called.specs.Called.{lentOf};
+ghost use Rattle.asklines.specs.Asking.{heldOf};
+ghost use Rattle.tablelines.specs.Table.{LooksAs, shorter, Answers};
+use asklines::Answered;
+use lineforms::Said;
 use model::Counts;
+use model::Lookup;
 use model::Row;
-pub use table::answer;
 
-// The rows, the counts, "the flush count last given" and how many bytes are to be printed.
-pub struct Answered {
-    pub rows: [Row; 64],
-    pub counts: Counts,
-    pub flushes: u64,
-    pub printed: usize,
+// A lookup is made, and its reply printed.
+fn look(
+    x: Lookup,
+    counts: Counts,
+    rows: [Row; 64],
+    store: &[u64],
+    free: &[u64],
+    ready: &[u64],
+    owners: &[u64],
+    pool: &[u8],
+    out: &mut [u8; 4096],
+) -> usize
+    ensures { λ r. ⌜ (r ≤ 4096) × LooksAs x counts (lentOf rows (now (store .entry)) (now (free .entry)) (now (ready .entry)) (now (owners .entry)) (now (pool .entry))) (take r (now (out .exit))) ⌝ }
+{
+    let reply = hostlook::look_in(x, counts, rows, store, free, ready, owners, pool);
+    saidtexts::say_reply(reply, out)
+}
+
+// One less; of 0, 0.
+fn one_less(n: usize) -> usize
+    ensures { λ r. ⌜ r ≡ n - 1 ⌝ }
+{
+    if n == 0 {
+        return 0;
+    }
+    n - 1
+}
+
+// `len`: the free stack is lent without its last word.
+fn len_line(
+    counts: Counts,
+    rows: [Row; 64],
+    store: &[u64],
+    free: &[u64],
+    ready: &[u64],
+    owners: &[u64],
+    pool: &[u8],
+    out: &mut [u8; 4096],
+) -> usize
+    ensures { λ r. ⌜ (r ≤ 4096) × LooksAs Lookup.WritesLive counts (shorter (lentOf rows (now (store .entry)) (now (free .entry)) (now (ready .entry)) (now (owners .entry)) (now (pool .entry)))) (take r (now (out .exit))) ⌝ }
+{
+    let k = one_less(free.len());
+    look(
+        Lookup::WritesLive,
+        counts,
+        rows,
+        store,
+        &free[..k],
+        ready,
+        owners,
+        pool,
+        out,
+    )
+}
+
+// A line of an open table is answered.
+pub fn answer(
+    said: Said,
+    number: u64,
+    flushes: u64,
+    counts: Counts,
+    rows: [Row; 64],
+    store: &mut [u64],
+    free: &mut [u64],
+    ready: &mut [u64],
+    owners: &mut [u64],
+    pool: &mut [u8],
+    out: &mut [u8; 4096],
+) -> Answered
+    ensures { λ r. ⌜ Answers said number (heldOf flushes counts (lentOf rows (now (store .entry)) (now (free .entry)) (now (ready .entry)) (now (owners .entry)) (now (pool .entry)))) (heldOf (r .flushes) (r .counts) (lentOf (r .rows) (now (store .exit)) (now (free .exit)) (now (ready .exit)) (now (owners .exit)) (now (pool .exit)))) (take (r .printed) (now (out .exit))) ⌝ }
+    ensures bounded { λ r. ⌜ r .printed ≤ 4096 ⌝ }
+{
+    match said {
+        Said::Look(x) => asklines::still(
+            flushes,
+            counts,
+            rows,
+            look(x, counts, rows, store, free, ready, owners, pool, out),
+        ),
+        Said::Len => asklines::still(
+            flushes,
+            counts,
+            rows,
+            len_line(counts, rows, store, free, ready, owners, pool, out),
+        ),
+        Said::Fill {
+            buffer,
+            at,
+            length,
+            seed,
+        } => asklines::still(
+            flushes,
+            counts,
+            rows,
+            hostlines::fill_line(
+                buffer,
+                at,
+                length,
+                seed,
+                number,
+                rows,
+                store,
+                owners,
+                pool,
+                out,
+            ),
+        ),
+        Said::Sum { buffer, at, length } => asklines::still(
+            flushes,
+            counts,
+            rows,
+            hostlines::sum_line(buffer, at, length, number, store, pool, out),
+        ),
+        Said::Rows => asklines::still(
+            flushes,
+            counts,
+            rows,
+            hostlines::rows_line(counts, rows, store, free, out),
+        ),
+        _ => {
+            let names = asklines::named(store);
+            let asks = linecalls::asked(said, names, flushes);
+            asklines::ask(
+                asks,
+                number,
+                flushes,
+                counts,
+                rows,
+                store,
+                free,
+                ready,
+                owners,
+                pool,
+                out,
+            )
+        }
+    }
 }

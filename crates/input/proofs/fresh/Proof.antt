@@ -2,7 +2,7 @@
 use mathlib.Core.Path.{refl}
 use borrow.Author.Needs.{needs}
 use borrow.Author.Tests.{not-true, not-false}
-use Rattle.input.proofs.Cut.{not-both}
+use Rattle.layout.proofs.Tests.{not-both}
 use Rattle.input.proofs.fresh.Statement.{statement}
 use Rattle.input.proofs.fresh.Tie as tie
 

@@ -1,12 +1,12 @@
--- `tablelines::given_by` meets its contract: of the calls only an answer gives a flush count.
+-- `asklines::given_by` meets its contract: of the calls only an answer gives a flush count.
 use mathlib.Core.Path.{_≡_, sym, ap}
 use Prim.Native.Nat.{ℕ}
 use Rattle.model.specs.declared.Call.{Call}
-use Rattle.tablelines.specs.Table.{givenBy}
-use Rattle.tablelines.proofs.Lines.{none-given}
+use Rattle.asklines.specs.Asking.{givenBy}
+use Rattle.asklines.proofs.Doing.{none-given}
 use borrow.Author.Needs.{needs}
-use Rattle.tablelines.proofs.table.given_by.Statement.{statement}
-use Rattle.tablelines.proofs.table.given_by.Tie as tie
+use Rattle.asklines.proofs.given_by.Statement.{statement}
+use Rattle.asklines.proofs.given_by.Tie as tie
 
 enum-known-call : tie.Need-enum-known-call
 enum-known-call c = search needs

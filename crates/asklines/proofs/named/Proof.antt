@@ -1,8 +1,8 @@
--- `tablelines::named` meets its contract: the words are those of the definition.
-use Rattle.tablelines.specs.Table.{namedIn}
+-- `asklines::named` meets its contract: the words are those of the definition.
+use Rattle.asklines.specs.Asking.{namedIn}
 use borrow.Author.Needs.{needs}
-use Rattle.tablelines.proofs.table.named.Statement.{statement}
-use Rattle.tablelines.proofs.table.named.Tie as tie
+use Rattle.asklines.proofs.named.Statement.{statement}
+use Rattle.asklines.proofs.named.Tie as tie
 
 word-requires : tie.Need-word-requires
 word-requires c κs = search needs

@@ -3,8 +3,8 @@ use mathlib.Core.Path.{_≡_, refl, sym, ap, _∙_}
 use native.Mathlib.Omega.{arith}
 use Rattle.tablelines.proofs.Lines.{look-said, len-said, fill-said, sum-said, rows-said, asks-said}
 use borrow.Author.Needs.{needs}
-use Rattle.tablelines.proofs.table.answer.Statement.{statement}
-use Rattle.tablelines.proofs.table.answer.Tie as tie
+use Rattle.tablelines.proofs.answer.Statement.{statement}
+use Rattle.tablelines.proofs.answer.Tie as tie
 
 enum-known-said : tie.Need-enum-known-said
 enum-known-said c = search needs

@@ -1,7 +1,7 @@
--- `tablelines::run` meets its contract: the call is made, and its reply printed.
+-- `asklines::run` meets its contract: the call is made, and its reply printed.
 use borrow.Author.Needs.{needs}
-use Rattle.tablelines.proofs.table.run.Statement.{statement}
-use Rattle.tablelines.proofs.table.run.Tie as tie
+use Rattle.asklines.proofs.run.Statement.{statement}
+use Rattle.asklines.proofs.run.Tie as tie
 
 call-in-requires : tie.Need-call-in-requires
 call-in-requires c κs = search needs

@@ -7,8 +7,8 @@ use lib.ListN.{length, take}
 use lib.Seq.{length-take-le}
 use Rattle.tablelines.proofs.Lines.{looks-shorter}
 use borrow.Author.Needs.{needs}
-use Rattle.tablelines.proofs.table.len_line.Statement.{statement}
-use Rattle.tablelines.proofs.table.len_line.Tie as tie
+use Rattle.tablelines.proofs.len_line.Statement.{statement}
+use Rattle.tablelines.proofs.len_line.Tie as tie
 
 one-less-requires : tie.Need-one-less-requires
 one-less-requires c κs = search needs

@@ -1,10 +1,10 @@
--- `tablelines::ask` meets its contract: each arm knows what the line asks for (Lines).
+-- `asklines::ask` meets its contract: each arm knows what the line asks for (Doing).
 use mathlib.Core.Path.{_≡_, refl, sym, ap, _∙_}
 use native.Mathlib.Omega.{arith}
-use Rattle.tablelines.proofs.Lines.{nothing-asked, other-asked, call-asked}
+use Rattle.asklines.proofs.Doing.{nothing-asked, other-asked, call-asked}
 use borrow.Author.Needs.{needs}
-use Rattle.tablelines.proofs.table.ask.Statement.{statement}
-use Rattle.tablelines.proofs.table.ask.Tie as tie
+use Rattle.asklines.proofs.ask.Statement.{statement}
+use Rattle.asklines.proofs.ask.Tie as tie
 
 enum-told : tie.Need-enum-told
 enum-told c = search needs

@@ -1,0 +1,4 @@
+-- The laws.
+pub mod Tables
+pub mod Openings
+pub mod Laws

@@ -1,0 +1,24 @@
+-- What holds of a trace from its first line on: what is lent to an open table is a table that calls have left (mayfill's `Open`). So what `CallsTo`, `LooksTo`,
+-- `FillsIn` and `ListsIn` say of such tables is promised of every line. Proved in proofs/Laws.antt (trace-laws).
+use mathlib.Core.List.{List}
+use Prim.Native.Nat.{ℕ}
+use Rattle.mayfill.specs.MayFill.{Open}
+use Rattle.unopened.specs.declared.Stage.{Stage}
+use Rattle.unopened.specs.declared.Stage.the-variants.{Before, Planned, Table, Refused, Over}
+use Rattle.unopened.specs.Unopened.{Stood}
+use Rattle.opened.specs.Opened.{partOf}
+use Rattle.replaying.specs.Lines.{Line}
+
+unfoldable pub StandsAt : Stage → Stood → Type 0
+StandsAt Before s = Unit {0}
+StandsAt (Planned o) s = Unit {0}
+StandsAt (Table k) s = Open (s .counts) (partOf k s .lent)
+StandsAt Refused s = Unit {0}
+StandsAt Over s = Unit {0}
+
+abbrev pub Stands : Stood → Type 0
+Stands s = StandsAt (s .stage) s
+
+pub record TraceLaws : Type 0 where
+  pub first : (s : Stood) → StandsAt Before s
+  pub line : (bytes : List ℕ) (n : ℕ) (s s′ : Stood) (text : List ℕ) → Stands s → Line bytes n s s′ text → Stands s′
