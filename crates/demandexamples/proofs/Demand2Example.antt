@@ -1,10 +1,11 @@
 -- The suppositions of demand 2 can be met: with the opening of document 01's figures a write of two pieces, and a read of two pieces, are served, with a lookup,
 -- another submission, its answer, a flush result too early and a count above the piece in between.
+use mathlib.Core.Logic.{_≢_}
 use mathlib.Core.Path.{_≡_, refl, sym, ap, _∙_, subst}
 use mathlib.Core.Bool.{true, false}
 use mathlib.Core.Option.{none, some}
 use mathlib.Core.List.{List, [], _∷_}
-use Prim.Native.Nat.{ℕ, _+_}
+use Prim.Native.Nat.{ℕ, zero, suc}
 use lib.ListN.{length, replicate, length-replicate}
 use Rattle.layout.specs.Pick.{pick}
 use Rattle.layout.proofs.Tests.{not-both}
@@ -33,7 +34,7 @@ use Rattle.step.specs.Lists.{broughtBy, brought, isAway, loose, planAt, leftIn,
 use Rattle.step.specs.Alone.{tagGiven}
 use Rattle.step.specs.Figures.{figuresOpening, figuresPlan, figuresLengths}
 use Rattle.step.specs.Demand3.{Start, plansOf, openedBy, after}
-use Rattle.step.specs.Demand2.{WholeTo, HoldsCard, TakenWhole, Undisturbed, Served, Accepted, Wrote, DidRead, getsIn}
+use Rattle.step.specs.Demand2.{WholeTo, HoldsCard, TakenWhole, Undisturbed, Served, Accepted, Wrote, DidRead, getsIn, BeingWritten}
 use Rattle.step.proofs.AloneTags.{clash}
 use Rattle.step.proofs.Figures.{figures}
 use Rattle.step.proofs.Demand2.{demand2}
@@ -43,12 +44,12 @@ use Rattle.demandexamples.proofs.Quiet.{quiet, quietly, may}
 unfoldable ServedAll : State → List Made → ℕ → Request → Card → Type 0
 ServedAll s [] t q card = Unit {0}
 ServedAll s (m ∷ ms) t q card =
-    (names (rowAt s (rowOf t)) t ≡ true) × TakenWhole s (quiet s m) t card × Undisturbed s (quiet s m) t q card × ServedAll (next s (quiet s m)) ms t q (cardBy s (quiet s m) card)
+    (names (rowAt s (rowOf t)) t ≡ true) × TakenWhole s (quiet s m) t card × ((r y : ℕ) → r ≢ rowOf t → BeingWritten (planAt s (rowAt s r)) (rowAt s r .awaits) y → ⊥) × ServedAll (next s (quiet s m)) ms t q (cardBy s (quiet s m) card)
 
 quiet-served : (s : State) (ms : List Made) (t : ℕ) (q : Request) (card : Card) → ServedAll s ms t q card → Served s (quietly s ms) t q card
-unfolding Served quietly ServedAll
+unfolding Served quietly ServedAll Undisturbed
 quiet-served s [] t q card f = tt
-quiet-served s (m ∷ ms) t q card f = (f .0, may s, f .1, f .2, quiet-served (next s (quiet s m)) ms t q (cardBy s (quiet s m) card) (f .3))
+quiet-served s (m ∷ ms) t q card f = (f .0, may s, f .1, λ r i y other written lt at. f .2 r y other written, quiet-served (next s (quiet s m)) ms t q (cardBy s (quiet s m) card) (f .3))
 
 -- an input that is taken whole, one that is turned away, and none at all
 taken-input : (s : State) (m : Made) (t : ℕ) (card : Card) (i : Input) → brought t m ≡ some i → WholeTo s (rowAt s (rowOf t)) (rowAt s (rowOf t) .awaits) i
@@ -63,15 +64,6 @@ taken-away s m t card gone j q heard = absurd (not-both gone heard)
 taken-none : (s : State) (m : Made) (t : ℕ) (card : Card) → brought t m ≡ none → TakenWhole s (quiet s m) t card
 unfolding TakenWhole
 taken-none s m t card e j q heard = clash (let z = sym e ∙ q in cc)
-
--- the card is as it was, or the input is the operation's own
-card-stays : (s : State) (m : Made) (t : ℕ) (q : Request) (card : Card) → cardBy s (quiet s m) card ≡ card → Undisturbed s (quiet s m) t q card
-unfolding Undisturbed
-card-stays s m t q card e none-brought i lt = ap (λ (after : Card). after (place (regionAt s (q .handle) .map) (q .offset .0 + i))) e
-
-its-own : (s : State) (m : Made) (t : ℕ) (q : Request) (card : Card) (i : Input) → brought t m ≡ some i → Undisturbed s (quiet s m) t q card
-unfolding Undisturbed
-its-own s m t q card i e none-brought j lt = clash (let z = sym e ∙ none-brought in cc)
 
 -- ---- the example
 
@@ -100,6 +92,12 @@ between = looks MarkNow ∷ calls (ReadPage (asked 1 1536 512)) ∷ whole 0 ∷ 
 abbrev blank : Card
 blank z = 0
 
+-- no other row writes
+others : (P : ℕ → ℕ → Type 0) → ((y : ℕ) → P 1 y → ⊥) → ((r y : ℕ) → P (suc (suc r)) y → ⊥) → (r y : ℕ) → r ≢ 0 → P r y → ⊥
+others P b c zero y n z = n refl
+others P b c (suc zero) y n z = b y z
+others P b c (suc (suc r)) y n z = c r y z
+
 record Computed : Type 0 where
   writes : tagGiven (replyTo (openedBy start) (submits (calls (Write its)))) ≡ some 0
   reads : tagGiven (replyTo (openedBy start) (submits (calls (ReadPage its)))) ≡ some 0
@@ -116,7 +114,7 @@ unfolding quietly ServedAll figuresOpening figuresPlan figuresLengths openedBy p
     ask firstNo handleNamesRegion bufferInPool isHost heldAt hostHoldsBuffer roomInTable lifetimeLeft gateOpen storeWritable unpoisoned
     regionWritable volumeAndRegionMatch generationMatches lengthAbove0 writeOnBlock readOnBlock aligned withinData regionAt writeQuestions readQuestions
     planIn plansIn atFirst opened freed upFrom runsIn mapIn spanFrom runOf runEnd runLeft place pieceSize pick onBlock
-    brought broughtBy tagIn tagGiven isAway leftIn loose planAt WholeTo HoldsCard cardBy wroteBy takesWhole pread
+    brought broughtBy tagIn tagGiven isAway leftIn loose planAt BeingWritten WholeTo HoldsCard cardBy wroteBy takesWhole pread
 computed = record {
   writes = refl;
   reads = refl;
@@ -124,24 +122,24 @@ computed = record {
   write-served = (
     refl,
     taken-none _ _ 0 _ refl,
-    card-stays _ _ 0 _ _ refl,
+    others _ (λ y z. z) (λ r y z. z),
     (
       refl,
       taken-none _ _ 0 _ refl,
-      card-stays _ _ 0 _ _ refl,
+      others _ (λ y z. z) (λ r y z. z),
       (
         refl,
         taken-input _ _ 0 _ (answered (Count 512) true 0) refl (refl, refl) tt,
-        its-own _ _ 0 _ _ (answered (Count 512) true 0) refl,
+        others _ (λ y z. z) (λ r y z. z),
         (
           refl,
           taken-away _ _ 0 _ refl,
-          card-stays _ _ 0 _ _ refl,
+          others _ (λ y z. z) (λ r y z. z),
           (
             refl,
             taken-none _ _ 0 _ refl,
-            card-stays _ _ 0 _ _ refl,
-            (refl, taken-away _ _ 0 _ refl, card-stays _ _ 0 _ _ refl, (refl, taken-input _ _ 0 _ (answered (Count 512) true 0) refl (refl, refl) tt, its-own _ _ 0 _ _ (answered (Count 512) true 0) refl, tt)),
+            others _ (λ y z. z) (λ r y z. z),
+            (refl, taken-away _ _ 0 _ refl, others _ (λ y z. z) (λ r y z. z), (refl, taken-input _ _ 0 _ (answered (Count 512) true 0) refl (refl, refl) tt, others _ (λ y z. z) (λ r y z. z), tt)),
           ),
         ),
       ),
@@ -150,24 +148,24 @@ computed = record {
   read-served = (
     refl,
     taken-none _ _ 0 _ refl,
-    card-stays _ _ 0 _ _ refl,
+    others _ (λ y z. z) (λ r y z. z),
     (
       refl,
       taken-none _ _ 0 _ refl,
-      card-stays _ _ 0 _ _ refl,
+      others _ (λ y z. z) (λ r y z. z),
       (
         refl,
         taken-input _ _ 0 _ (answered (Count 512) true 0) refl (refl, refl) refl,
-        its-own _ _ 0 _ _ (answered (Count 512) true 0) refl,
+        others _ (λ y z. z) (λ r y z. z),
         (
           refl,
           taken-away _ _ 0 _ refl,
-          card-stays _ _ 0 _ _ refl,
+          others _ (λ y z. z) (λ r y z. z),
           (
             refl,
             taken-none _ _ 0 _ refl,
-            card-stays _ _ 0 _ _ refl,
-            (refl, taken-away _ _ 0 _ refl, card-stays _ _ 0 _ _ refl, (refl, taken-input _ _ 0 _ (answered (Count 512) true 0) refl (refl, refl) refl, its-own _ _ 0 _ _ (answered (Count 512) true 0) refl, tt)),
+            others _ (λ y z. z) (λ r y z. z),
+            (refl, taken-away _ _ 0 _ refl, others _ (λ y z. z) (λ r y z. z), (refl, taken-input _ _ 0 _ (answered (Count 512) true 0) refl (refl, refl) refl, others _ (λ y z. z) (λ r y z. z), tt)),
           ),
         ),
       ),

@@ -26,9 +26,10 @@ use Rattle.step.specs.Step.{durableAs, claimedBy, oneMore, accepted, rowOf, gen
 use Rattle.step.specs.Step.{completionOf, rejection, settled, fateOf, underTag}
 use Rattle.step.specs.Step.{queueTag, topOf, rowAt, verdictOf, writeVerdict, submitted, taken, eqLengths, called, step}
 use Rattle.step.specs.Laws.{Made.calls, Event, leave, done, next, replyTo}
+use Rattle.step.specs.Alone.{tagGiven}
 use Rattle.step.specs.Lists.{HostMay}
 use Rattle.step.specs.Figures.{figuresOpening, figuresPlan, figuresLengths, figuresTable, asking, replyAfter, tableAfter, answers}
-use Rattle.rusttable.specs.Domain.{compared, knownHandle, issues, isTag, atOnce, unjoinedFrom, unjoined, InDomain}
+use Rattle.rusttable.specs.Domain.{compared, knownHandle, isTag, atOnce, unjoinedFrom, unjoined, InDomain}
 use Rattle.rusttable.specs.Histories.{isSubmission, MadeIn, HistoryIn}
 
 -- calls that all lend the figures' lengths, between which the host writes nothing
@@ -39,7 +40,7 @@ calmly s (c ∷ cs) = record { leaves = s .pool; lengths = figuresLengths; made 
 -- each is in the domain
 pub CallsIn : Option ℕ → State → List Call → Type 0
 CallsIn before s [] = Unit {0}
-CallsIn before s (c ∷ cs) = InDomain before s figuresLengths c × CallsIn (issues (step s figuresLengths c .1)) (step s figuresLengths c .0) cs
+CallsIn before s (c ∷ cs) = InDomain before s figuresLengths c × CallsIn (tagGiven (step s figuresLengths c .1)) (step s figuresLengths c .0) cs
 
 may : (s : State) → HostMay s (s .pool)
 unfolding bytesAt
@@ -48,7 +49,7 @@ may s = record { count = refl; each = λ b lt. inr (inl refl) }
 calm-history : (after : Bool) (before : Option ℕ) (s : State) (cs : List Call) → CallsIn before s cs → HistoryIn after before s (calmly s cs)
 unfolding calmly CallsIn HistoryIn MadeIn next replyTo leave done
 calm-history after before s [] f = tt
-calm-history after before s (c ∷ cs) f = (may s, λ r. refl, f .0, calm-history (isSubmission (calls c)) (issues (step s figuresLengths c .1)) (step s figuresLengths c .0) cs (f .1))
+calm-history after before s (c ∷ cs) f = (may s, λ r. refl, f .0, calm-history (isSubmission (calls c)) (tagGiven (step s figuresLengths c .1)) (step s figuresLengths c .0) cs (f .1))
 
 -- a first piece is refused at once; of the same write, made again, the second is
 abbrev pub told : List Call
@@ -63,7 +64,7 @@ pub record InIt : Type 0 where
   pub together : CallsIn none figuresTable told
 
 pub in-it : InIt
-unfolding CallsIn compared knownHandle issues isTag atOnce unjoinedFrom unjoined
+unfolding CallsIn compared knownHandle tagGiven isTag atOnce unjoinedFrom unjoined
     figuresOpening figuresPlan figuresLengths figuresTable asking replyAfter tableAfter number opOf firstOf lastOf rangeOf pieceOf pieceLength bufferAs errorOf turnedBack isWritten causeOf failedRead readOutcome readLength ticketOf unflushed writtenAs lastPiece abovePiece isRefusal firstRefused isWhole goesOn splitAfter pieceAnswered answerRules rules receiptFor durableAs claimedBy oneMore accepted rowOf generationOf isLive names bytesAt raised awaitsNow oneLess keptBy poisonWith going freeing planOf asksFor completionOf rejection settled fateOf underTag queueTag topOf rowAt verdictOf writeVerdict submitted taken eqLengths called step ask firstNo handleNamesRegion bufferInPool isHost heldAt hostHoldsBuffer roomInTable lifetimeLeft gateOpen storeWritable unpoisoned regionWritable volumeAndRegionMatch generationMatches lengthAbove0 writeOnBlock aligned withinData regionAt writeQuestions planIn plansIn atFirst opened freed upFrom runsIn mapIn spanFrom runOf runEnd runLeft place pieceSize pick onBlock
 in-it = record {
   write = record { numbers = refl; handle = refl; refusal = refl; maps = refl };

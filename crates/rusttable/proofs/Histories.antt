@@ -29,6 +29,7 @@ use Rattle.step.specs.Questions.{regionAt}
 use Rattle.step.specs.Step.{rowAt, rowOf, taken, withRegions, withPoison, marked, withGate, withReadOnly, withForced, called, look, lookedUp, step}
 use Rattle.step.specs.Sound.{Sound}
 use Rattle.step.specs.Laws.{Made, Made.calls, Made.looks, Event, leave, done, next, replyTo, run}
+use Rattle.step.specs.Alone.{tagGiven}
 use Rattle.step.specs.Lists.{HostMay}
 use Rattle.step.specs.Demand3.{plansOf, openedBy}
 use Rattle.step.proofs.Picked.{by-pick}
@@ -38,9 +39,9 @@ use Rattle.step.proofs.Laws.{keeps, step-laws}
 use Rattle.rusttable.specs.Table.{Result, Result.Ok, Result.Err, IoBuf, RawError, RawResult, Finish, Submitter, Issued}
 use Rattle.rusttable.specs.Table.{Completion as RustCompletion}
 use Rattle.rusttable.specs.Functions.{isSome, returned, withTable, withStore, write as rustWrite, «read_page», finish as rustFinish, «refused_next»}
-use Rattle.rusttable.specs.Domain.{compared, knownHandle, issues, InDomain}
+use Rattle.rusttable.specs.Domain.{compared, knownHandle, InDomain}
 use Rattle.rusttable.specs.AsStep.{bufOf, storeOf, submitterOf, inFlight, flushedOf, posOf, isLater, finishAs, issuedAs, Finishes, Submits, isSetting}
-use Rattle.rusttable.specs.Histories.{Handed, Handed.ToWrite, Handed.ToReadPage, Handed.ToFinish, Handed.ToRefusedNext, Handed.ToFlushed, Handed.ToNext, Handed.ToRegion, Handed.ToPoison, Back, Back.submits, Back.finishes, Back.takes}
+use Rattle.rusttable.specs.Histories.{Handed, Handed.ToWrite, Handed.ToReadPage, Handed.ToFinish, Handed.ToRefusedNext, Handed.ToFlushed, Handed.ToNext, Handed.ToRegion, Handed.ToPoison, HandedBack, HandedBack.submits, HandedBack.finishes, HandedBack.takes}
 use Rattle.rusttable.specs.Histories.{withIssued, rustStep, rustRun, rustOpened, asRust, isSubmission, refusal, refusedBy, refusesFirst, verdict, answerTo, handedBy, handed, comesTo, answerSays, saidBy, said, MadeIn, HistoryIn, Agrees, AsHistory}
 use Rattle.rusttable.proofs.Within.{called-step}
 use Rattle.rusttable.proofs.AsStep.{as-step}
@@ -79,7 +80,7 @@ Goal after s es issued = Agrees (rustRun (submitterOf (ahead after s es) issued)
 abbrev Later : Bool → Option ℕ → State → Type 0
 Later after before s = (t : ℕ) → after ≡ false → before ≡ some t → isLater (rowAt s (rowOf t) .awaits) ≡ true
 
-one-more : (r r′ : Submitter) (h : Handed) (hs : List Handed) (s : State) (now later : List (Option Back)) → rustStep r h .0 ≡ r′ → map some (rustStep r h .1) ≡ now → Agrees (rustRun r′ hs) s later → Agrees (rustRun r (h ∷ hs)) s (now ++ later)
+one-more : (r r′ : Submitter) (h : Handed) (hs : List Handed) (s : State) (now later : List (Option HandedBack)) → rustStep r h .0 ≡ r′ → map some (rustStep r h .1) ≡ now → Agrees (rustRun r′ hs) s later → Agrees (rustRun r (h ∷ hs)) s (now ++ later)
 unfolding rustRun
 one-more r r′ h hs s now later q says behind =
     let z = subst (λ (x : Submitter). Agrees (rustRun x hs) s later) (sym q) behind in
@@ -100,16 +101,16 @@ module _ (s : State) (l : Lengths) (issued : ℕ) where
   unfolding rustStep withStore submitterOf storeOf withPoison
   poison-set c cause sets q = λ j. record { store = storeOf (sym q j .0) issued; table = sym (as-step .settings s l c sets) j }
 
-taken-none : (s : State) (cs : List Completion) → issues (taken s cs .1) ≡ none
-unfolding taken issues
+taken-none : (s : State) (cs : List Completion) → tagGiven (taken s cs .1) ≡ none
+unfolding taken tagGiven
 taken-none s [] = refl
 taken-none s (c ∷ cs) = refl
 
-looked-none : (s : State) (l : Lengths) (x : Lookup) → issues (look s l x) ≡ none
-unfolding look lookedUp issues
-looked-none s l x = by-pick _ (λ (y : Reply). issues y ≡ none) (λ same. by-lookup x) (λ other. refl)
+looked-none : (s : State) (l : Lengths) (x : Lookup) → tagGiven (look s l x) ≡ none
+unfolding look lookedUp tagGiven
+looked-none s l x = by-pick _ (λ (y : Reply). tagGiven y ≡ none) (λ same. by-lookup x) (λ other. refl)
   where
-    by-lookup : (y : Lookup) → issues (lookedUp s y) ≡ none
+    by-lookup : (y : Lookup) → tagGiven (lookedUp s y) ≡ none
     by-lookup WritesLive = refl
     by-lookup MarkNow = refl
 
@@ -128,18 +129,18 @@ module _ (after : Bool) (before : Option ℕ) (s : State) (i : Sound s) (later :
   same n = λ j. record { store = storeOf s n; table = sym (as-step .leaves s pool i host) j }
 
   -- behind an event that is no submission
-  onward : (c : Call) (n : ℕ) → ((t : ℕ) → issues (step left l c .1) ≡ some t → isLater (rowAt (step left l c .0) (rowOf t) .awaits) ≡ true) → HistoryIn false (issues (step left l c .1)) (step left l c .0) es
+  onward : (c : Call) (n : ℕ) → ((t : ℕ) → tagGiven (step left l c .1) ≡ some t → isLater (rowAt (step left l c .0) (rowOf t) .awaits) ≡ true) → HistoryIn false (tagGiven (step left l c .1)) (step left l c .0) es
       → Agrees (rustRun (submitterOf (step left l c .0) n) (handed false (step left l c .0) es)) (run (step left l c .0) es) (said false (step left l c .0) es)
   onward c n next-later h =
       let to = step left l c .0 in
       subst (λ (y : State). Agrees (rustRun (submitterOf y n) (handed false to es)) (run to es) (said false to es)) (not-ahead to es)
-      (behind false (issues (step left l c .1)) to n (keeps left l c sound-left) (λ t no. next-later t) h)
+      (behind false (tagGiven (step left l c .1)) to n (keeps left l c sound-left) (λ t no. next-later t) h)
 
-  none-later : (c : Call) → issues (step left l c .1) ≡ none → (t : ℕ) → issues (step left l c .1) ≡ some t → isLater (rowAt (step left l c .0) (rowOf t) .awaits) ≡ true
+  none-later : (c : Call) → tagGiven (step left l c .1) ≡ none → (t : ℕ) → tagGiven (step left l c .1) ≡ some t → isLater (rowAt (step left l c .0) (rowOf t) .awaits) ≡ true
   none-later c q t e = clash (cc)
 
   -- the host's writes change nothing of the Rust's
-  from-left : (hs : List Handed) (to : State) (says : List (Option Back)) → Agrees (rustRun (submitterOf left issued) hs) to says → Agrees (rustRun (submitterOf s issued) hs) to says
+  from-left : (hs : List Handed) (to : State) (says : List (Option HandedBack)) → Agrees (rustRun (submitterOf left issued) hs) to says → Agrees (rustRun (submitterOf s issued) hs) to says
   from-left hs to says = subst (λ (r : Submitter). Agrees (rustRun r hs) to says) (sym (same issued))
 
   abbrev Stepped : Made → Type 0
@@ -149,18 +150,18 @@ module _ (after : Bool) (before : Option ℕ) (s : State) (i : Sound s) (later :
   -- ---- a submission
 
   submission : (c : Call) (w : Bool) (buf : IoBuf) (rust : Submitter × Issued) (hand : Handed) → rustStep (submitterOf left issued) hand ≡ (rust .0, submits (rust .1) ∷ []) → Submits issued w buf rust (comesTo (step left l c) es)
-      → HistoryIn true (issues (step left l c .1)) (step left l c .0) es
+      → HistoryIn true (tagGiven (step left l c .1)) (step left l c .0) es
       → Agrees (rustRun (submitterOf s issued) (hand ∷ handed true (step left l c .0) es)) (run (step left l c .0) es)
       ((Option·map submits (issuedAs w (comesTo (step left l c) es .0) buf (comesTo (step left l c) es .1)) ∷ []) ++ said true (step left l c .0) es)
   submission c w buf rust hand is z h =
       let to = step left l c .0 in
       from-left _ _ _
       (one-more (submitterOf left issued) (submitterOf (ahead true to es) issued) hand (handed true to es) (run to es) _ (said true to es)
-      (ap (λ (y : Submitter × List Back). y .0) is ∙ z .state ∙ ap (λ (y : State). submitterOf y issued) (sym (ahead-comes (step left l c) es)))
-      (ap (λ (y : Submitter × List Back). map some (y .1)) is ∙ ap (λ (o : Option Issued). Option·map submits o ∷ []) (z .reply))
-      (behind true (issues (step left l c .1)) to issued (keeps left l c sound-left) (λ t no e. absurd (not-both refl no)) h))
+      (ap (λ (y : Submitter × List HandedBack). y .0) is ∙ z .state ∙ ap (λ (y : State). submitterOf y issued) (sym (ahead-comes (step left l c) es)))
+      (ap (λ (y : Submitter × List HandedBack). map some (y .1)) is ∙ ap (λ (o : Option Issued). Option·map submits o ∷ []) (z .reply))
+      (behind true (tagGiven (step left l c .1)) to issued (keeps left l c sound-left) (λ t no e. absurd (not-both refl no)) h))
 
-  on-write : (q : Request) → InDomain before left l (Write q) → HistoryIn true (issues (step left l (Write q) .1)) (step left l (Write q) .0) es → Stepped (calls (Write q))
+  on-write : (q : Request) → InDomain before left l (Write q) → HistoryIn true (tagGiven (step left l (Write q) .1)) (step left l (Write q) .0) es → Stepped (calls (Write q))
   unfolding done refusesFirst refusedBy isSome pick handedBy saidBy isSubmission rustStep
   on-write q d h =
       let buf = bufOf left (q .buffer) (q .length) in
@@ -168,7 +169,7 @@ module _ (after : Bool) (before : Option ℕ) (s : State) (i : Sound s) (later :
       (submitted left l (Write q) (d .numbers) true buf issued (rustWrite (submitterOf left issued) (q .handle) (posOf q) buf (q .durable) (q .tag)) (as-step .write before left l q issued sound-left d)
       (as-step .write-refused before left l q issued sound-left d) es h) h
 
-  on-read : (q : Request) → InDomain before left l (ReadPage q) → HistoryIn true (issues (step left l (ReadPage q) .1)) (step left l (ReadPage q) .0) es → Stepped (calls (ReadPage q))
+  on-read : (q : Request) → InDomain before left l (ReadPage q) → HistoryIn true (tagGiven (step left l (ReadPage q) .1)) (step left l (ReadPage q) .0) es → Stepped (calls (ReadPage q))
   unfolding done refusesFirst refusedBy isSome pick handedBy saidBy isSubmission rustStep
   on-read q d h =
       let buf = bufOf left (q .buffer) (q .length) in
@@ -179,7 +180,7 @@ module _ (after : Bool) (before : Option ℕ) (s : State) (i : Sound s) (later :
   -- ---- an answer
 
   module _ (t : ℕ) (a : Answer) (back : Bool) (flushes : ℕ) (d : InDomain before left l (Answers t a back flushes))
-      (h : HistoryIn false (issues (step left l (Answers t a back flushes) .1)) (step left l (Answers t a back flushes) .0) es) where
+      (h : HistoryIn false (tagGiven (step left l (Answers t a back flushes) .1)) (step left l (Answers t a back flushes) .0) es) where
     abbrev z : State × Reply
     z = step left l (Answers t a back flushes)
 
@@ -193,8 +194,8 @@ module _ (after : Bool) (before : Option ℕ) (s : State) (i : Sound s) (later :
         → Agrees (rustRun (submitterOf s issued) (hand ∷ handed false (z .0) es)) (run (z .0) es) ((Option·map finishes (finishAs (z .0) (z .1)) ∷ []) ++ said false (z .0) es)
     finished hand rust is f =
         from-left _ _ _
-        (one-more (submitterOf left issued) (submitterOf (z .0) flushes) hand (handed false (z .0) es) (run (z .0) es) _ (said false (z .0) es) (ap (λ (y : Submitter × List Back). y .0) is ∙ f .state)
-        (ap (λ (y : Submitter × List Back). map some (y .1)) is ∙ ap (λ (o : Option Finish). Option·map finishes o ∷ []) (f .reply)) (answer-on flushes))
+        (one-more (submitterOf left issued) (submitterOf (z .0) flushes) hand (handed false (z .0) es) (run (z .0) es) _ (said false (z .0) es) (ap (λ (y : Submitter × List HandedBack). y .0) is ∙ f .state)
+        (ap (λ (y : Submitter × List HandedBack). map some (y .1)) is ∙ ap (λ (o : Option Finish). Option·map finishes o ∷ []) (f .reply)) (answer-on flushes))
 
     abbrev Answered : Bool → Result RawResult (Option RawError) → Type 0
     Answered b r = Agrees (rustRun (submitterOf (pick (isSome (refusal r back) && b) (z .0) s) issued) (answerTo b left t back flushes r ++ handed false (z .0) es)) (run (z .0) es) (answerSays b z r ++ said false (z .0) es)
@@ -221,40 +222,40 @@ module _ (after : Bool) (before : Option ℕ) (s : State) (i : Sound s) (later :
   -- ---- the other calls
 
   -- a call whose reply issues no piece
-  other : (c : Call) (hand : Handed) (now : List (Option Back)) → rustStep (submitterOf left issued) hand .0 ≡ submitterOf (step left l c .0) issued → map some (rustStep (submitterOf left issued) hand .1) ≡ now
-      → issues (step left l c .1) ≡ none → HistoryIn false (issues (step left l c .1)) (step left l c .0) es
+  other : (c : Call) (hand : Handed) (now : List (Option HandedBack)) → rustStep (submitterOf left issued) hand .0 ≡ submitterOf (step left l c .0) issued → map some (rustStep (submitterOf left issued) hand .1) ≡ now
+      → tagGiven (step left l c .1) ≡ none → HistoryIn false (tagGiven (step left l c .1)) (step left l c .0) es
       → Agrees (rustRun (submitterOf s issued) (hand ∷ handed false (step left l c .0) es)) (run (step left l c .0) es) (now ++ said false (step left l c .0) es)
   other c hand now q says none-issued h =
       from-left _ _ _ (one-more (submitterOf left issued) (submitterOf (step left l c .0) issued) hand _ _ now _ q says (onward c issued (none-later c none-issued) h))
 
   setting : (c : Call) (j : ℕ) (g : Region) → isSetting c ≡ true → compared (step left l c .1) ≡ true → called left c ≡ marked left j g → ltb j (left .settings .regions) ≡ true
-      → HistoryIn false (issues (step left l c .1)) (step left l c .0) es → Agrees (rustRun (submitterOf s issued) (ToRegion j g ∷ handed false (step left l c .0) es)) (run (step left l c .0) es) (said false (step left l c .0) es)
-  unfolding issues rustStep
+      → HistoryIn false (tagGiven (step left l c .1)) (step left l c .0) es → Agrees (rustRun (submitterOf s issued) (ToRegion j g ∷ handed false (step left l c .0) es)) (run (step left l c .0) es) (said false (step left l c .0) es)
+  unfolding tagGiven rustStep
   setting c j g sets numbers is known h =
       let q = called-step left l c numbers ∙ is ∙ set-marked left l issued j g known in
-      other c (ToRegion j g) [] (region-set left l issued c j g sets q) refl (ap (λ (y : State × Reply). issues (y .1)) q) h
+      other c (ToRegion j g) [] (region-set left l issued c j g sets q) refl (ap (λ (y : State × Reply). tagGiven (y .1)) q) h
 
-  event : (m : Made) → MadeIn before left l m → HistoryIn (isSubmission m) (issues (done left l m .1)) (done left l m .0) es → Stepped m
-  unfolding done refusesFirst refusedBy isSome pick handedBy saidBy isSubmission MadeIn rustStep submitterOf withTable called knownHandle isSetting issues
+  event : (m : Made) → MadeIn before left l m → HistoryIn (isSubmission m) (tagGiven (done left l m .1)) (done left l m .0) es → Stepped m
+  unfolding done refusesFirst refusedBy isSome pick handedBy saidBy isSubmission MadeIn rustStep submitterOf withTable called knownHandle isSetting tagGiven
   event (calls (Write q)) d h = on-write q d h
   event (calls (ReadPage q)) d h = on-read q d h
   event (calls (Answers t a back flushes)) d h = on-answer t a back flushes d h
   event (calls (FlushedCall t result)) d h =
-      let z = as-step .flushed before left l t result issued sound-left d in other (FlushedCall t result) (ToFlushed t (flushedOf result)) [] (z .0) refl (ap issues (z .1)) h
+      let z = as-step .flushed before left l t result issued sound-left d in other (FlushedCall t result) (ToFlushed t (flushedOf result)) [] (z .0) refl (ap tagGiven (z .1)) h
   event (calls Take) d h =
       let z = as-step .take before left l issued d in
       other Take ToNext _ (λ j. record { store = sym (z .store) j; table = z .table j }) (ap (λ (o : Option (Option RustCompletion)). Option·map takes o ∷ []) (z .front))
-      (ap (λ (y : State × Reply). issues (y .1)) (called-step left l Take (d .numbers)) ∙ taken-none left (left .ready)) h
+      (ap (λ (y : State × Reply). tagGiven (y .1)) (called-step left l Take (d .numbers)) ∙ taken-none left (left .ready)) h
   event (calls (SetGate j x)) d h = setting (SetGate j x) j (withGate (regionAt left j) x) refl (d .numbers) refl (d .handle) h
   event (calls (SetReadOnly j x)) d h = setting (SetReadOnly j x) j (withReadOnly (regionAt left j) x) refl (d .numbers) refl (d .handle) h
   event (calls (SetForced j x)) d h = setting (SetForced j x) j (withForced (regionAt left j) x) refl (d .numbers) refl (d .handle) h
   event (calls (ReportPoison cause)) d h =
       let q = called-step left l (ReportPoison cause) (d .numbers) in
-      other (ReportPoison cause) (ToPoison cause) [] (poison-set left l issued (ReportPoison cause) cause refl q) refl (ap (λ (y : State × Reply). issues (y .1)) q) h
+      other (ReportPoison cause) (ToPoison cause) [] (poison-set left l issued (ReportPoison cause) cause refl q) refl (ap (λ (y : State × Reply). tagGiven (y .1)) q) h
   event (looks x) d h =
       from-left _ _ _
       (subst (λ (y : State). Agrees (rustRun (submitterOf y issued) (handed false left es)) (run left es) (said false left es)) (not-ahead left es)
-      (behind false (issues (look left l x)) left issued sound-left (λ t no e. clash (let z = looked-none left l x in cc)) h))
+      (behind false (tagGiven (look left l x)) left issued sound-left (λ t no e. clash (let z = looked-none left l x in cc)) h))
 
 -- ---- the history
 

@@ -25,7 +25,8 @@ use Rattle.step.specs.Sound.{Sound}
 use Rattle.step.proofs.AloneTags.{clash, live-in, names-live}
 use Rattle.step.proofs.Fates.{Follows, Fitting, FateFits, fate-fits}
 use Rattle.step.proofs.ProjectionSet.{row-here}
-use Rattle.rusttable.specs.Domain.{compared, issues}
+use Rattle.step.specs.Alone.{tagGiven}
+use Rattle.rusttable.specs.Domain.{compared}
 use Rattle.rusttable.specs.AsStep.{isLater}
 use Rattle.rusttable.proofs.Within.{called-step, found-under}
 use Rattle.rusttable.proofs.Pieces.{some-bytes}
@@ -40,14 +41,14 @@ module _ (s : State) (i : Sound s) (t : ℕ) (found : names (rowAt s (rowOf t)) 
   some-done k sp (Flush ticket) e f = absurd f
   some-done k sp (Piece k₀ sp₀) e f = let z = some-bytes s i t found k₀ sp₀ e in let q = ap (λ (x : Split). x .done) (f .1) in omega (arith, z, q)
 
-  none-issued : (g : Plan) (a : Awaits) (x : OsError) (b : Buffer) (u : ℕ) → issues (rejection g a x b) ≡ some u → ⊥
-  unfolding issues rejection
+  none-issued : (g : Plan) (a : Awaits) (x : OsError) (b : Buffer) (u : ℕ) → tagGiven (rejection g a x b) ≡ some u → ⊥
+  unfolding tagGiven rejection
   none-issued g Nothing x b u e = clash (cc)
   none-issued g (Piece k sp) x b u e = clash (cc)
   none-issued g (Flush ticket) x b u e = clash (cc)
 
-  fate-later : (u : ℕ) (f : Fate) → FateFits s row f → issues (settled s t row f .1) ≡ some u → isLater (rowAt (settled s t row f .0) (rowOf u) .awaits) ≡ true
-  unfolding settled Fitting issues asksFor isLater going awaitsNow
+  fate-later : (u : ℕ) (f : Fate) → FateFits s row f → tagGiven (settled s t row f .1) ≡ some u → isLater (rowAt (settled s t row f .0) (rowOf u) .awaits) ≡ true
+  unfolding settled Fitting tagGiven asksFor isLater going awaitsNow
   fate-later u (away f) fits e = clash (cc)
   fate-later u (ends o b bytes cause) fits e = clash (cc)
   fate-later u (rejected x b bytes) fits e = absurd (none-issued _ (row .awaits) x b u e)
@@ -61,11 +62,11 @@ module _ (s : State) (i : Sound s) (t : ℕ) (found : names (rowAt s (rowOf t)) 
       ap (λ (n : ℕ). isLater (rowAt to (rowOf n) .awaits)) (sym same) ∙ ap (λ (r : Row). isLater (r .awaits)) at ∙ lt-ltb 0 (sp .done) (some-done k sp (row .awaits) refl (fits .0 .follows))
 
 pub later-piece : (s : State) (l : Lengths) (t : ℕ) (a : Answer) (back : Bool) (flushes : ℕ) → Sound s → compared (step s l (Answers t a back flushes) .1) ≡ true
-    → (u : ℕ) → issues (step s l (Answers t a back flushes) .1) ≡ some u → isLater (rowAt (step s l (Answers t a back flushes) .0) (rowOf u) .awaits) ≡ true
+    → (u : ℕ) → tagGiven (step s l (Answers t a back flushes) .1) ≡ some u → isLater (rowAt (step s l (Answers t a back flushes) .0) (rowOf u) .awaits) ≡ true
 unfolding called
 later-piece s l t a back flushes i h u =
     let z = called-step s l (Answers t a back flushes) h in
     let x = answered a back flushes in
     let f = found-under s t x (subst (λ (y : State × Reply). compared (y .1) ≡ true) z h) in
-    subst (λ (y : State × Reply). issues (y .1) ≡ some u → isLater (rowAt (y .0) (rowOf u) .awaits) ≡ true) (sym (z ∙ f .settles))
+    subst (λ (y : State × Reply). tagGiven (y .1) ≡ some u → isLater (rowAt (y .0) (rowOf u) .awaits) ≡ true) (sym (z ∙ f .settles))
     (fate-later s i t (f .names-row) u (fateOf s (rowAt s (rowOf t)) x) (fate-fits s (rowAt s (rowOf t)) x))

@@ -23,9 +23,10 @@ use Rattle.step.specs.Step.{eqLengths, called, step}
 use Rattle.step.specs.Laws.{Made, Made.calls, Made.looks, Event, leave, done, next, replyTo}
 use Rattle.step.proofs.AloneTags.{clash}
 use Rattle.step.proofs.Histories.{done-stays}
+use Rattle.step.specs.Alone.{tagGiven}
 use Rattle.rusttable.specs.Table.{Result, Result.Ok, Result.Err, IoBuf, RawError, RawResult, Submitter, Submitted, Submitted.Taken, Submitted.Refused as QueueRefuses, Issued}
 use Rattle.rusttable.specs.Functions.{isSome}
-use Rattle.rusttable.specs.Domain.{compared, issues, isTag, atOnce, InDomain}
+use Rattle.rusttable.specs.Domain.{compared, isTag, atOnce, InDomain}
 use Rattle.rusttable.specs.AsStep.{answerOf, refusalOf, Submits}
 use Rattle.rusttable.specs.Histories.{asRust, refusal, refusedBy, refusesFirst, verdictAs, verdict, comesTo, MadeIn, HistoryIn}
 use Rattle.rusttable.proofs.Within.{called-step}
@@ -89,8 +90,8 @@ record IsPiece (x : Reply) (t : ℕ) : Type 0 where
   b : ℕ
   is : x ≡ piece t offset count b
 
-is-piece : (x : Reply) (t : ℕ) → issues x ≡ some t → IsPiece x t
-unfolding issues
+is-piece : (x : Reply) (t : ℕ) → tagGiven x ≡ some t → IsPiece x t
+unfolding tagGiven
 is-piece (piece u offset count b) t e = let same : u ≡ t = cc in record { offset = offset; count = count; b = b; is = ap (λ (v : ℕ). piece v offset count b) same }
 is-piece (turnedAway f) t e = clash (cc)
 is-piece (Rejected range op raw buf) t e = clash (cc)
@@ -126,18 +127,18 @@ module _ (s : State) (l : Lengths) (c : Call) (d : compared (step s l c .1) ≡ 
       let same : eqLengths l (to .lengths) ≡ true = ap (λ (k : Lengths). eqLengths l k) (done-stays s l (calls c) .lengths) ∙ lent s l c d in
       ap (λ (b : Bool). pick b (called to x) (to, turnedAway Unfit)) same ∙ sym (called-step to l₂ x h)
 
-  refused-by : (t : ℕ) (raw : Option RawError) (back : Bool) (flushes : ℕ) (l₂ : Lengths) → InDomain (issues (step s l c .1)) to l₂ (Answers t (refusalOf raw) back flushes)
+  refused-by : (t : ℕ) (raw : Option RawError) (back : Bool) (flushes : ℕ) (l₂ : Lengths) → InDomain (tagGiven (step s l c .1)) to l₂ (Answers t (refusalOf raw) back flushes)
       → Submits issued w buf (rust (QueueRefuses raw back)) (step to l₂ (Answers t (refusalOf raw) back flushes))
   refused-by t raw back flushes l₂ h =
       let x = Answers t (refusalOf raw) back flushes in
-      let q = tag-issued (issues (step s l c .1)) t raw back flushes (h .refusal) in
+      let q = tag-issued (tagGiven (step s l c .1)) t raw back flushes (h .refusal) in
       let p = is-piece (step s l c .1) t q in
       let same = same-lent l₂ x (h .numbers) in
       let in-it : InDomain (some t) to l x =
       record { numbers = ap (λ (z : State × Reply). compared (z .1)) same ∙ h .numbers; handle = h .handle; refusal = subst (λ (o : Option ℕ). atOnce o x ≡ true) q (h .refusal); maps = h .maps } in
       subst (Submits issued w buf (rust (QueueRefuses raw back))) same (refused t (p .offset) (p .count) (p .b) (p .is) raw back flushes in-it)
 
-  pub submitted : (es : List Event) → HistoryIn true (issues (step s l c .1)) to es → Submits issued w buf (rust (verdict es)) (comesTo (step s l c) es)
+  pub submitted : (es : List Event) → HistoryIn true (tagGiven (step s l c .1)) to es → Submits issued w buf (rust (verdict es)) (comesTo (step s l c) es)
   unfolding verdict comesTo HistoryIn verdictAs isSome pick next replyTo leave done MadeIn refusesFirst
   submitted [] h = taken
   submitted (e ∷ es) h = by-refusal (refusedBy (e .made)) refl
@@ -148,4 +149,4 @@ module _ (s : State) (l : Lengths) (c : Call) (d : compared (step s l c .1) ≡ 
           let z = refuses (e .made) (v .0) (v .1) q in
           let same : leave to (e .leaves) ≡ to = ap (leave to) (h .1 (ap (λ (o : Option (Option RawError × Bool)). isSome o && true) q)) in
           subst (Submits issued w buf (rust (QueueRefuses (v .0) (v .1)))) (λ j. done (sym same j) (e .lengths) (sym (z .is) j))
-          (refused-by (z .t) (v .0) (v .1) (z .flushes) (e .lengths) (subst (λ (m : Made). MadeIn (issues (step s l c .1)) to (e .lengths) m) (z .is) (subst (λ (y : State). MadeIn (issues (step s l c .1)) y (e .lengths) (e .made)) same (h .2))))
+          (refused-by (z .t) (v .0) (v .1) (z .flushes) (e .lengths) (subst (λ (m : Made). MadeIn (tagGiven (step s l c .1)) to (e .lengths) m) (z .is) (subst (λ (y : State). MadeIn (tagGiven (step s l c .1)) y (e .lengths) (e .made)) same (h .2))))

@@ -44,19 +44,6 @@ knownHandle s (SetReadOnly h x) = ltb h (s .settings .regions)
 knownHandle s (SetForced h x) = ltb h (s .settings .regions)
 knownHandle s (ReportPoison cause) = true
 
--- the queue tag under which a reply issues a piece
-unfoldable pub issues : Reply → Option ℕ
-issues (piece qtag offset count buffer) = some qtag
-issues (turnedAway f) = none
-issues (Rejected range op raw buf) = none
-issues (Done qtag) = none
-issues (flushAsked qtag need) = none
-issues (Took c) = none
-issues noneReady = none
-issues Ok = none
-issues (Writes b) = none
-issues (Mark n) = none
-
 unfoldable pub isTag : Option ℕ → ℕ → Bool
 isTag none t = false
 isTag (some u) t = eqb u t

@@ -23,11 +23,12 @@ use Rattle.model.specs.Opening.{Plan, atFirst}
 use Rattle.step.specs.Questions.{regionAt}
 use Rattle.step.specs.Step.{withGate, withReadOnly, withForced}
 use Rattle.step.specs.Laws.{Made, Made.calls, Made.looks, Event, leave, next, replyTo, run}
+use Rattle.step.specs.Alone.{tagGiven}
 use Rattle.step.specs.Lists.{HostMay}
 use Rattle.step.specs.Demand3.{Start, plansOf, openedBy}
 use Rattle.rusttable.specs.Table.{Result, Result.Ok, Result.Err, IoBuf, RawError, RawResult, Flushed, Completion, Finish, Submitter, RegionPos, Submitted, Submitted.Taken, Submitted.Refused as QueueRefuses, Issued}
 use Rattle.rusttable.specs.Functions.{isSome, returned, withTable, withStore, finish as rustFinish, «refused_next», flushed as rustFlushed, next as rustNext, write as rustWrite, «read_page», new as rustNew}
-use Rattle.rusttable.specs.Domain.{issues, InDomain}
+use Rattle.rusttable.specs.Domain.{InDomain}
 use Rattle.rusttable.specs.AsStep.{bufOf, submitterOf, inFlight, flushedOf, posOf, finishAs, frontAs, issuedAs}
 
 -- ---- the Rust's run
@@ -45,15 +46,15 @@ pub data Handed : Type 0 where
   ToPoison : FirstCause → Handed
 
 -- what it hands back
-pub data Back : Type 0 where
-  submits : Issued → Back
-  finishes : Finish → Back
-  takes : Option Completion → Back
+pub data HandedBack : Type 0 where
+  submits : Issued → HandedBack
+  finishes : Finish → HandedBack
+  takes : Option Completion → HandedBack
 
 unfoldable pub withIssued : Submitter → ℕ → Submitter
 withIssued r issued = withStore r (record { settings = r .store .settings; regions = r .store .regions; poison = r .store .poison; issued = issued })
 
-unfoldable pub rustStep : Submitter → Handed → Submitter × List Back
+unfoldable pub rustStep : Submitter → Handed → Submitter × List HandedBack
 rustStep r (ToWrite handle pos buf durable tag queue) = let z = rustWrite r handle pos buf durable tag queue in (z .0, submits (z .1) ∷ [])
 rustStep r (ToReadPage handle pos buf tag queue) = let z = «read_page» r handle pos buf tag queue in (z .0, submits (z .1) ∷ [])
 rustStep r (ToFinish qtag buf result issued) = let z = rustFinish (withIssued r issued) qtag buf result in (z .0, finishes (z .1) ∷ [])
@@ -63,7 +64,7 @@ rustStep r ToNext = let z = rustNext (r .table) in (withTable r (z .table), take
 rustStep r (ToRegion handle g) = (withStore r (record { settings = r .store .settings; regions = set (r .store .regions) handle g; poison = r .store .poison; issued = r .store .issued }), [])
 rustStep r (ToPoison cause) = (withStore r (record { settings = r .store .settings; regions = r .store .regions; poison = firstKept (r .store .poison) cause; issued = r .store .issued }), [])
 
-unfoldable pub rustRun : Submitter → List Handed → Submitter × List Back
+unfoldable pub rustRun : Submitter → List Handed → Submitter × List HandedBack
 rustRun r [] = (r, [])
 rustRun r (h ∷ hs) = let z = rustStep r h in let behind = rustRun (z .0) hs in (behind .0, z .1 ++ behind .1)
 
@@ -151,12 +152,12 @@ unfoldable pub comesTo : State × Reply → List Event → State × Reply
 comesTo z [] = z
 comesTo z (e ∷ es) = pick (isSome (refusedBy (e .made))) (next (z .0) e, replyTo (z .0) e) z
 
-unfoldable pub answerSays : Bool → State × Reply → Result RawResult (Option RawError) → List (Option Back)
+unfoldable pub answerSays : Bool → State × Reply → Result RawResult (Option RawError) → List (Option HandedBack)
 answerSays after z (Ok result) = Option·map finishes (finishAs (z .0) (z .1)) ∷ []
 answerSays after z (Err raw) = pick after [] (Option·map finishes (finishAs (z .0) (z .1)) ∷ [])
 
 -- none, where the Rust has no such value
-unfoldable pub saidBy : Bool → State → Made → State × Reply → List Event → List (Option Back)
+unfoldable pub saidBy : Bool → State → Made → State × Reply → List Event → List (Option HandedBack)
 saidBy after s (calls (Write q)) z es = Option·map submits (issuedAs true (comesTo z es .0) (bufOf s (q .buffer) (q .length)) (comesTo z es .1)) ∷ []
 saidBy after s (calls (ReadPage q)) z es = Option·map submits (issuedAs false (comesTo z es .0) (bufOf s (q .buffer) (q .length)) (comesTo z es .1)) ∷ []
 saidBy after s (calls (Answers t a back flushes)) z es = answerSays after z (asRust a)
@@ -168,7 +169,7 @@ saidBy after s (calls (SetForced h x)) z es = []
 saidBy after s (calls (ReportPoison cause)) z es = []
 saidBy after s (looks x) z es = []
 
-unfoldable pub said : Bool → State → List Event → List (Option Back)
+unfoldable pub said : Bool → State → List Event → List (Option HandedBack)
 said after s [] = []
 said after s (e ∷ es) = saidBy after (leave s (e .leaves)) (e .made) (next s e, replyTo s e) es ++ said (isSubmission (e .made)) (next s e) es
 
@@ -184,14 +185,14 @@ unfoldable pub HistoryIn : Bool → Option ℕ → State → List Event → Type
 HistoryIn after before s [] = Unit {0}
 HistoryIn after before s (e ∷ es) =
     HostMay s (e .leaves) × (refusesFirst after (e .made) ≡ true → e .leaves ≡ s .pool) × MadeIn before (leave s (e .leaves)) (e .lengths) (e .made)
-    × HistoryIn (isSubmission (e .made)) (issues (replyTo s e)) (next s e) es
+    × HistoryIn (isSubmission (e .made)) (tagGiven (replyTo s e)) (next s e) es
 
 -- the Rust's last submitter is the table's, with the flush count that it has, and what it handed back is what was said, in order
-pub record Agrees (rust : Submitter × List Back) (s : State) (says : List (Option Back)) : Type 0 where
+pub record Agrees (rust : Submitter × List HandedBack) (s : State) (says : List (Option HandedBack)) : Type 0 where
   pub state : rust .0 ≡ submitterOf s (rust .0 .store .issued)
   pub replies : map some (rust .1) ≡ says
 
--- of every opening that is admitted and every history in the domain. Proved in proofs/Histories.antt (as-history).
+-- of every opening that is admitted and every history that HistoryIn admits. Proved in proofs/Histories.antt (as-history).
 abbrev pub AsHistory : Type 0
 AsHistory = (x : Start) (es : List Event) → HistoryIn false none (openedBy x) es
     → Agrees (rustRun (rustOpened (x .opening) (plansOf x)) (handed false (openedBy x) es)) (run (openedBy x) es) (said false (openedBy x) es)

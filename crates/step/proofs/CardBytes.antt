@@ -27,8 +27,9 @@ use Rattle.step.specs.Rules.{Input, firstOf, pieceOf, pieceLength}
 use Rattle.step.specs.Step.{rowAt, isLive, planOf}
 use Rattle.step.specs.Sound.{rangeStart, rangeEnd, SplitFits, InTable, Sound}
 use Rattle.step.specs.Lists.{loose, planAt, takesWhole, wroteBy}
-use Rattle.step.specs.Demand3.{isWrite}
-use Rattle.step.specs.Demand2.{doneOf, ToWrite}
+use Rattle.step.specs.Demand3.{Mapped, isWrite}
+use Rattle.step.specs.Demand2.{InPiece, BeingWritten}
+use Rattle.step.proofs.Picked.{by-pick}
 use Rattle.step.proofs.ProjectionHost.{live-in-table}
 
 -- ---- of what else a byte follows
@@ -82,48 +83,41 @@ module _ (s : State) (i : Sound s) (r : Row) (t : InTable s r) (a b : Position) 
   one-piece : OnePiece m (a .0 + sp .done) (sp .total - sp .done)
   one-piece = map-laws .one-piece m (i .each (r .handle) (t .region) .lawful) (a .0 + sp .done) (sp .total - sp .done) (let z = split in omega arith) (let z = split in let d = in-data in omega arith)
 
-  -- a byte of the piece is still to be written
-  to-write : (j : ℕ) → j < pieceSize m (a .0 + sp .done) (sp .total - sp .done) → (y : ℕ) → place m (a .0 + sp .done) + j ≡ y → ToWrite s r y
-  unfolding rangeStart rangeEnd doneOf
-  to-write j lt y e = record {
-    mapped = record {
-      i = sp .done + j;
-      inside =
-          subst (λ (w : Awaits). rangeStart w + (sp .done + j) < rangeEnd w) (sym at) (let z = split in let p = one-piece .most in omega (arith, z, p, lt));
-      at =
-          subst (λ (w : Awaits). place m (rangeStart w + (sp .done + j)) ≡ y) (sym at)
-          (ap (place m) (sym (add-assoc (a .0) (sp .done) j)) ∙ one-piece .consecutive j lt ∙ e);
-    };
-    behind = subst (λ (w : Awaits). doneOf w ≤ sp .done + j) (sym at) (omega arith);
+  -- a byte of the piece is one that its range is mapped to
+  in-range : (j : ℕ) → j < pieceSize m (a .0 + sp .done) (sp .total - sp .done) → (y : ℕ) → place m (a .0 + sp .done) + j ≡ y → Mapped s r y
+  unfolding rangeStart rangeEnd
+  in-range j lt y e = record {
+    i = sp .done + j;
+    inside =
+        subst (λ (w : Awaits). rangeStart w + (sp .done + j) < rangeEnd w) (sym at) (let z = split in let p = one-piece .most in omega (arith, z, p, lt));
+    at =
+        subst (λ (w : Awaits). place m (rangeStart w + (sp .done + j)) ≡ y) (sym at)
+        (ap (place m) (sym (add-assoc (a .0) (sp .done) j)) ∙ one-piece .consecutive j lt ∙ e);
   }
 
-  piece-away : (bytes : List ℕ) (card : Card) (y : ℕ) → (ToWrite s r y → ⊥) → pwrite card (place m (a .0 + sp .done)) (take (pieceLength (planAt s r) (Page a b) sp) bytes) y ≡ card y
-  unfolding pieceLength pieceOf planAt planOf firstOf
-  piece-away bytes card y n =
-      let size = pieceSize m (a .0 + sp .done) (sp .total - sp .done) in
-      transfer-laws .others card (place m (a .0 + sp .done)) (take size bytes) y
-      (λ j lt e. n (to-write j (omega (arith, lt, length-take size bytes)) y e))
+-- ---- a byte beside the piece under way
 
-pub wrote-away : (s : State) → Sound s → (k : ℕ) (bytes : List ℕ) (i : Option Input) (card : Card) (y : ℕ) → (isWrite (rowAt s k .awaits) ≡ true → ToWrite s (rowAt s k) y → ⊥)
+pub wrote-beside : (g : Plan) (w : Awaits) (bytes : List ℕ) (i : Option Input) (card : Card) (y : ℕ) → (BeingWritten g w y → ⊥) → wroteBy g w bytes i card y ≡ card y
+unfolding wroteBy BeingWritten firstOf
+wrote-beside g Nothing bytes i card y n = refl
+wrote-beside g (Piece (Page a b) sp) bytes i card y n =
+    let size = pieceLength g (Page a b) sp in
+    by-pick (takesWhole size i) (λ (after : Card). after y ≡ card y)
+    (λ taken. transfer-laws .others card (place (g .map) (a .0 + sp .done)) (take size bytes) y (λ j lt e. n (record { j = j; inside = omega (arith, lt, length-take size bytes); at = e })))
+    (λ not. refl)
+wrote-beside g (Piece (Read a b) sp) bytes i card y n = refl
+wrote-beside g (Flush t) bytes i card y n = refl
+
+-- so is a byte that the operation's range is not mapped to
+pub wrote-away : (s : State) → Sound s → (k : ℕ) (bytes : List ℕ) (i : Option Input) (card : Card) (y : ℕ) → (isWrite (rowAt s k .awaits) ≡ true → Mapped s (rowAt s k) y → ⊥)
     → wroteBy (planAt s (rowAt s k)) (rowAt s k .awaits) bytes i card y ≡ card y
-unfolding wroteBy pick
-wrote-away s sound k bytes i card y n = by-awaits (rowAt s k .awaits) refl
+wrote-away s sound k bytes i card y n = wrote-beside (planAt s (rowAt s k)) (rowAt s k .awaits) bytes i card y (by-awaits (rowAt s k .awaits) refl)
   where
-    g : Plan
-    g = planAt s (rowAt s k)
-
-    by-awaits : (w : Awaits) → rowAt s k .awaits ≡ w → wroteBy g w bytes i card y ≡ card y
-    by-awaits Nothing e = refl
-    by-awaits (Piece (Page a b) sp) e = by-test (takesWhole (pieceLength g (Page a b) sp) i)
-      where
-        unmapped : ToWrite s (rowAt s k) y → ⊥
-        unmapped = n (unfold isWrite in ap isWrite e)
-
-        in-table : InTable s (rowAt s k)
-        in-table = live-in-table s sound k (unfold isLive in ap isLive e)
-
-        by-test : (t : Bool) → pick t (pwrite card (place (g .map) (a .0 + sp .done)) (take (pieceLength g (Page a b) sp) bytes)) card y ≡ card y
-        by-test true = unfold planAt planOf in piece-away s sound (rowAt s k) in-table a b sp e bytes card y unmapped
-        by-test false = refl
-    by-awaits (Piece (Read a b) sp) e = refl
-    by-awaits (Flush t) e = refl
+    by-awaits : (w : Awaits) → rowAt s k .awaits ≡ w → BeingWritten (planAt s (rowAt s k)) w y → ⊥
+    by-awaits Nothing e z = unfold BeingWritten in z
+    by-awaits (Piece (Page a b) sp) e z =
+        let it : InPiece (planAt s (rowAt s k)) (Page a b) sp y = unfold BeingWritten in z in
+        n (unfold isWrite in ap isWrite e)
+        (unfold pieceLength pieceOf planAt planOf firstOf in in-range s sound (rowAt s k) (live-in-table s sound k (unfold isLive in ap isLive e)) a b sp e (it .j) (it .inside) y (it .at))
+    by-awaits (Piece (Read a b) sp) e z = unfold BeingWritten in z
+    by-awaits (Flush t) e z = unfold BeingWritten in z

@@ -90,7 +90,7 @@ card-cold x s a k e card y c = by-reply (isAway (replyTo s e))
 
     by-reply : (b : Bool) → pick b card (wroteBy (planAt s r) (r .awaits) (bytesAt (leave s (e .leaves)) (r .buffer)) (brought t (e .made)) card) y ≡ card y
     by-reply true = refl
-    by-reply false = wrote-away s (k .sound) (rowOf t) (bytesAt (leave s (e .leaves)) (r .buffer)) (brought t (e .made)) card y (λ w z. c (rowOf t) tt w (z .mapped))
+    by-reply false = wrote-away s (k .sound) (rowOf t) (bytesAt (leave s (e .leaves)) (r .buffer)) (brought t (e .made)) card y (λ w z. c (rowOf t) tt w z)
 
 module _ (x : Start) where
   pub cold : (l : List Event) (s : State) (a : Alones) → Reached x s a → Fits s l → (card : Card) (y : ℕ) → Clear Every s y → cardAfter s l card y ≡ card y
@@ -157,7 +157,7 @@ module _ (x : Start) (s : State) (a : Alones) (k : Reached x s a) (e : Event) (w
     other-byte u i n bu heard = by-name (names (rowAt s (rowOf u)) u) refl
       where
         by-name : (b : Bool) → names (rowAt s (rowOf u)) u ≡ b → writes u (some i) y ≡ card y
-        by-name true q = wrote-away s (k .sound) (rowOf u) (bytesAt s₁ (rowAt s (rowOf u) .buffer)) (some i) card y (λ w z. clear (rowOf u) (other-row u n q) w (z .mapped))
+        by-name true q = wrote-away s (k .sound) (rowOf u) (bytesAt s₁ (rowAt s (rowOf u) .buffer)) (some i) card y (λ w z. clear (rowOf u) (other-row u n q) w z)
         by-name false q = absurd (not-both (unnamed x s a k e w u i bu q .0) heard)
 
     module _ (c : Course) (op : a .ops t ≡ some c) where

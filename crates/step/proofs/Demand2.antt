@@ -25,7 +25,7 @@ use Rattle.step.specs.Laws.{Made, Made.calls, Event, leave, done, run, r
 use Rattle.step.specs.Lists.{Completed, Hosted}
 use Rattle.step.specs.Alone.{tagGiven}
 use Rattle.step.specs.Demand3.{Start, openedBy, after}
-use Rattle.step.specs.Demand2.{Served, Accepted, bufferThen, submittedIn, givenTo, answersIn, getsIn, Issues, Wrote, DidRead, Followed, AllWhole, isKept, lastReply, asksUnder, Demand2}
+use Rattle.step.specs.Demand2.{Served, Accepted, bufferThen, submittedIn, PiecesDone, Over, givenTo, answersIn, getsIn, Issues, Wrote, DidRead, Followed, AllWhole, isKept, lastReply, asksUnder, Demand2}
 use Rattle.step.proofs.Histories.{keeps-next}
 use Rattle.step.proofs.Laws.{keeps}
 use Rattle.step.proofs.Demand2Others.{card-others, pool-others}
@@ -34,7 +34,7 @@ use Rattle.step.proofs.Demand2Fate.{pages}
 use Rattle.step.proofs.Demand2Task.{Task}
 use Rattle.step.proofs.Demand2Kept.{stage-writes, kept-from, all-answered}
 use Rattle.step.proofs.Demand2Walk.{Along, walk}
-use Rattle.step.proofs.Demand2Ends.{stands, awaited, ends, not-before}
+use Rattle.step.proofs.Demand2Ends.{stands, awaited, ends, not-before, all-over}
 use Rattle.step.proofs.Demand2Begun.{Begun, begun-write, begun-read, before, may, then-length, task, opens}
 use Rattle.step.proofs.Demand2Asked.{asked-from, first-asks}
 
@@ -55,10 +55,14 @@ module _ (x : Start) (h : List Event) (e : Event) (t : ℕ) (q : Request) (hoste
     its = task x (after x h) (before x h e hosted .sound) (before x h e hosted .fixed) e (may x h e hosted) q k t g first last new long of-write
 
     along : (card : Card) → (pages k ≡ false → (i : ℕ) → i < q .length → card (place m (q .offset .0 + i)) ≡ getD new i 0) → (es : List Event) → Served (submittedIn x h e) es t q card → Along its (submittedIn x h e) es card 0 × Issues x h e t q es
+        × ((pages k ≡ true → q .durable ≡ true → ⊥) → PiecesDone (run (submittedIn x h e) es) t → Over (run (submittedIn x h e) es) t)
     along card reads es served =
         let o = opens x (after x h) (before x h e hosted .sound) (before x h e hosted .fixed) e (may x h e hosted) q k t g first last new long of-write card reads in
-        let z = stands its es (submittedIn x h e) card 0 0 o served in
-        (walk its es (submittedIn x h e) card 0 0 o served, record { awaited = awaited its (submittedIn x h e) es z; ends = ends its (submittedIn x h e) es z; not-before = not-before its (submittedIn x h e) es z })
+        let z = stands its es (submittedIn x h e) card 0 0 o served in (
+          walk its es (submittedIn x h e) card 0 0 o served,
+          record { awaited = awaited its (submittedIn x h e) es z; ends = ends its (submittedIn x h e) es z; not-before = not-before its (submittedIn x h e) es z },
+          all-over its (submittedIn x h e) es z,
+        )
 
 module _ (x : Start) (h : List Event) (e : Event) (t : ℕ) (q : Request) where
   abbrev s₁ : State
@@ -78,6 +82,7 @@ module _ (x : Start) (h : List Event) (e : Event) (t : ℕ) (q : Request) where
             y .only ∙ (λ j. (record { tag = y .finished .tag j; outcome = y .finished .wrote refl j; buf = y .finished .buf j }, take-append-drop (q .length) same j) ∷ []);
         no-flush = λ gone. z .completed gone .finished .policy refl;
         none-yet = z .none-yet;
+        plain-over = λ plain. both .2 (λ page durable. not-both durable plain);
         issues = both .1;
       }
 
@@ -94,6 +99,7 @@ module _ (x : Start) (h : List Event) (e : Event) (t : ℕ) (q : Request) where
         completes = λ gone. let y = z .completed gone in
             y .only ∙ (λ j. (record { tag = y .finished .tag j; outcome = y .finished .outcome refl j; buf = y .finished .buf j }, gathered card m₁ (q .offset .0) (q .length) ++ drop (q .length) (bufferThen x e q)) ∷ []);
         none-yet = z .none-yet;
+        over = both .2 (λ page durable. not-both page refl);
         issues = both .1;
       }
 

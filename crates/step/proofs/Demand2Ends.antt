@@ -20,6 +20,7 @@ use Rattle.step.specs.Laws.{Event, next, run}
 use Rattle.step.specs.Lists.{Given, givenBy, given, cardBy}
 use Rattle.step.specs.Demand2.{Served, NoPiece, PiecesDone, answersIn, ToCome}
 use Rattle.step.proofs.AloneTags.{clash}
+use Rattle.step.proofs.Demand2Fate.{pages}
 use Rattle.step.proofs.Demand2Task.{Task, splitOf, rest, rest-first, rest-none, Stage, Stage.piece, Stage.flush, InRow, Open}
 use Rattle.step.proofs.Demand2Event.{Came, Came.still, Came.over, came}
 
@@ -99,4 +100,14 @@ module _ (w : Task) (s : State) (es : List Event) where
     where
       by-stage : Stage w d n (rowAt (run s es) (rowOf (w .tag)) .awaits) → length all ≤ answers
       by-stage (flush t e page whole ticket) = let z = left [] (behind ∙ rest-none w d whole) in omega (arith, z)
+      by-stage (piece e more) = absurd (subst NoPiece e (done (row .named)))
+
+  -- a flush is awaited by a durable write alone
+  pub all-over : Stands w s es 0 → (pages (w .kind) ≡ true → w .request .durable ≡ true → ⊥) → PiecesDone (run s es) (w .tag) → names (rowAt (run s es) (rowOf (w .tag))) (w .tag) ≡ false
+  unfolding PiecesDone NoPiece
+  all-over (gone dead none) n done = dead
+  all-over (here d m row behind) n done = by-stage (row .stage)
+    where
+      by-stage : Stage w d m (rowAt (run s es) (rowOf (w .tag)) .awaits) → names (rowAt (run s es) (rowOf (w .tag))) (w .tag) ≡ false
+      by-stage (flush t e page whole ticket) = absurd (n page (ticket .durable))
       by-stage (piece e more) = absurd (subst NoPiece e (done (row .named)))

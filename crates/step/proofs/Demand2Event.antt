@@ -53,6 +53,7 @@ use Rattle.step.proofs.ListsBrought.{brings}
 use Rattle.step.proofs.ProjectionFixed.{next-plans}
 use Rattle.step.proofs.ProjectionHost.{sole, live-in-table, left-alike}
 use Rattle.step.proofs.ProjectionSet.{Changed, row-here, bytes-here}
+use Rattle.step.proofs.CardBytes.{wrote-none, wrote-beside}
 use Rattle.step.proofs.Demand2Others.{pool-others, other-row, done-row}
 use Rattle.step.proofs.Demand2Bytes.{lying, lying-last, turned-on, turned-last, piece-written}
 use Rattle.step.proofs.Demand2Fate.{pages, Whole, Whole.next-piece, Whole.its-flush, Whole.completes, answer-whole}
@@ -93,6 +94,14 @@ away-card s e card gone = by-pick (isAway (replyTo s e)) (λ (after : Card). aft
 module _ (s : State) (e : Event) (t : ℕ) (i : Input) (bt : brought t (e .made) ≡ some i) where
   abbrev s₁ : State
   s₁ = leave s (e .leaves)
+
+  -- a tag that names no row
+  unnamed-away : names (rowAt s (rowOf t)) t ≡ false → isAway (replyTo s e) ≡ true
+  unfolding replyTo underTag isAway pick rowAt leave
+  unnamed-away n =
+      ap (λ (z : State × Reply). isAway (z .1)) (brings (e .made) t i bt .called-is s₁ (e .lengths))
+      ∙ by-pick (eqLengths (e .lengths) (s₁ .lengths)) (λ (z : State × Reply). isAway (z .1) ≡ true)
+      (λ same. ap (λ (b : Bool). isAway (pick b (settled s₁ t (rowAt s₁ (rowOf t)) (fateOf s₁ (rowAt s₁ (rowOf t)) i)) (s₁, turnedAway UnknownTag) .1)) n) (λ other. refl)
 
   -- a tag that names one, where the event is not turned away
   pub heard-settles : names (rowAt s (rowOf t)) t ≡ true → isAway (replyTo s e) ≡ false → done s₁ (e .lengths) (e .made) ≡ settled s₁ t (rowAt s (rowOf t)) (fateOf s₁ (rowAt s (rowOf t)) i)
@@ -171,7 +180,7 @@ unfolding wroteBy pages
 wrote-read g (Page a b) sp bytes v card reads = absurd (not-both refl reads)
 wrote-read g (Read a b) sp bytes v card reads = refl
 
-module _ (w : Task) (s : State) (card : Card) (d given : ℕ) (o : Open w s card d given) (e : Event) (host : HostMay s (e .leaves)) (taken : TakenWhole s e (w .tag) card) (alone : Undisturbed s e (w .tag) (w .request) card) where
+module _ (w : Task) (s : State) (card : Card) (d given : ℕ) (o : Open w s card d given) (e : Event) (host : HostMay s (e .leaves)) (taken : TakenWhole s e (w .tag) card) (alone : Undisturbed s (w .tag) (w .request)) where
   abbrev t : ℕ
   t = w .tag
 
@@ -246,8 +255,27 @@ module _ (w : Task) (s : State) (card : Card) (d given : ℕ) (o : Open w s card
     other-tag i bu same = clash (let z : some i ≡ none = sym bu ∙ ap (λ (u : ℕ). brought u (e .made)) same ∙ bt in cc)
 
     other-card : (i : ℕ) → i < w .request .length → cardBy s e card (mappedTo w i) ≡ card (mappedTo w i)
-    unfolding Undisturbed
-    other-card i lt = subst (λ (m : Map). let y = place m (w .request .offset .0 + i) in cardBy s e card y ≡ card y) (o .map-is) (alone bt i lt)
+    unfolding cardBy Undisturbed
+    other-card i lt = by-pick (isAway (replyTo s e)) (λ (after : Card). after y ≡ card y) (λ gone. refl) (λ heard. by-brought (brought u (e .made)) refl heard)
+      where
+        u : ℕ
+        u = tagIn (e .made)
+
+        y : ℕ
+        y = mappedTo w i
+
+        its : Row
+        its = rowAt s (rowOf u)
+
+        by-name : (j : Input) → brought u (e .made) ≡ some j → isAway (replyTo s e) ≡ false → (n : Bool) → names its u ≡ n → wroteBy (planAt s its) (its .awaits) (bytesAt left (its .buffer)) (some j) card y ≡ card y
+        by-name j q heard true here =
+            wrote-beside (planAt s its) (its .awaits) (bytesAt left (its .buffer)) (some j) card y
+            (λ written. alone (rowOf u) i y (other-row s (o .sound) t (o .in-row .named) u (other-tag j q) here) written lt (ap (λ (m : Map). place m (w .request .offset .0 + i)) (o .map-is)))
+        by-name j q heard false n = absurd (not-both (unnamed-away s e u j q n) heard)
+
+        by-brought : (v : Option Input) → brought u (e .made) ≡ v → isAway (replyTo s e) ≡ false → wroteBy (planAt s its) (its .awaits) (bytesAt left (its .buffer)) v card y ≡ card y
+        by-brought none q heard = ap (λ (after : Card). after y) (wrote-none (planAt s its) (its .awaits) (bytesAt left (its .buffer)) card)
+        by-brought (some j) q heard = by-name j q heard (names its u) refl
 
     other-bytes : bytesAt (next s e) b ≡ bytesAt left b
     other-bytes =

@@ -3,7 +3,7 @@
 use mathlib.Core.Path.{_≡_, refl, sym, ap, _∙_, subst}
 use mathlib.Core.Logic.{_≢_}
 use mathlib.Core.Bool.{true}
-use mathlib.Core.Option.{Option, none, some}
+use mathlib.Core.Option.{none, some}
 use mathlib.Core.List.{List, [], _∷_}
 use Prim.Native.Nat.{ℕ, _<_}
 use native.Mathlib.Omega.{arith}
@@ -16,9 +16,6 @@ use Rattle.completion.specs.declared.Completion.{Completion}
 use Rattle.completion.specs.declared.Reply.{Reply}
 use Rattle.model.specs.declared.Lengths.{Lengths}
 use Rattle.model.specs.declared.Kind.{Kind}
-use Rattle.model.specs.declared.Kind.the-variants.{Page, Read}
-use Rattle.model.specs.declared.Awaits.{Awaits}
-use Rattle.model.specs.declared.Awaits.the-variants.{Nothing, Piece, Flush}
 use Rattle.model.specs.declared.Request.{Request}
 use Rattle.model.specs.declared.Asked.{Asked}
 use Rattle.model.specs.declared.Asked.the-variants.{Yes, No}
@@ -27,13 +24,12 @@ use Rattle.model.specs.declared.Call.the-variants.{Write, ReadPage, Answer, Flu
 use Rattle.model.specs.State.{Region, State, freed, awaiting}
 use Rattle.step.specs.Questions.{regionAt}
 use Rattle.step.specs.Rules.{Input, Input.answered, Input.flushed, Fate, Fate.away, Fate.awaits, Fate.ends, Fate.rejected}
-use Rattle.step.specs.Step.{writesIn, topOf, rowAt, rowOf, names, bytesAt, raised, awaitsNow, accepted, submitted, verdictOf, writeVerdict, readVerdict, going, freeing, settled, fateOf, underTag, taken}
+use Rattle.step.specs.Step.{topOf, rowAt, rowOf, names, bytesAt, raised, awaitsNow, accepted, submitted, verdictOf, writeVerdict, readVerdict, going, freeing, settled, fateOf, underTag, taken}
 use Rattle.step.specs.Step.{withRegions, withPoison, marked, withGate, withReadOnly, withForced, called, eqLengths, step}
 use Rattle.step.specs.Sound.{Sound}
 use Rattle.step.specs.Laws.{Made, Made.calls, Made.looks, Event, leave, done, next, replyTo}
-use Rattle.step.specs.Lists.{broughtBy, brought, isAway, planAt, wroteBy, tagIn, cardBy}
-use Rattle.step.specs.Demand3.{isWrite}
-use Rattle.step.specs.Demand2.{ToWrite}
+use Rattle.step.specs.Lists.{broughtBy, brought, isAway, planAt, tagIn, cardBy}
+use Rattle.step.specs.Demand2.{BeingWritten}
 use Rattle.step.proofs.Picked.{by-pick}
 use Rattle.step.proofs.Named.{live-one}
 use Rattle.step.proofs.AloneTags.{clash, names-live, one-tag}
@@ -41,32 +37,17 @@ use Rattle.step.proofs.Answers.{Passed, write-passed, read-passed}
 use Rattle.step.proofs.Taken.{awaits-nothing}
 use Rattle.step.proofs.Buffers.{bytes-length}
 use Rattle.step.proofs.Fates.{Fitting, FateFits, fate-fits}
-use Rattle.step.proofs.CardBytes.{wrote-away}
+use Rattle.step.proofs.CardBytes.{wrote-beside}
 use Rattle.step.proofs.ProjectionHost.{live-in-table}
 use Rattle.step.proofs.ProjectionSet.{bytes-there}
 
 -- ---- the card
 
--- only a write that awaits a piece changes a byte
-pub wrote-unless : (s : State) → Sound s → (k : ℕ) (bytes : List ℕ) (i : Option Input) (card : Card) (y : ℕ) → (writesIn (rowAt s k .awaits) ≡ true → ToWrite s (rowAt s k) y → ⊥)
-    → wroteBy (planAt s (rowAt s k)) (rowAt s k .awaits) bytes i card y ≡ card y
-unfolding wroteBy
-wrote-unless s sound k bytes i card y n = by-awaits (rowAt s k .awaits) refl
-  where
-    away : (writesIn (rowAt s k .awaits) ≡ isWrite (rowAt s k .awaits)) → wroteBy (planAt s (rowAt s k)) (rowAt s k .awaits) bytes i card y ≡ card y
-    away same = wrote-away s sound k bytes i card y (λ w. n (same ∙ w))
-
-    by-awaits : (a : Awaits) → rowAt s k .awaits ≡ a → wroteBy (planAt s (rowAt s k)) (rowAt s k .awaits) bytes i card y ≡ card y
-    by-awaits Nothing e = away (unfold writesIn isWrite in ap writesIn e ∙ sym (ap isWrite e))
-    by-awaits (Piece (Page a b) sp) e = away (unfold writesIn isWrite in ap writesIn e ∙ sym (ap isWrite e))
-    by-awaits (Piece (Read a b) sp) e = away (unfold writesIn isWrite in ap writesIn e ∙ sym (ap isWrite e))
-    by-awaits (Flush t) e = ap (λ (a : Awaits). wroteBy (planAt s (rowAt s k)) a bytes i card y) e
-
-pub card-others : (s : State) (e : Event) (card : Card) (y : ℕ) → Sound s → (writesIn (rowAt s (rowOf (tagIn (e .made))) .awaits) ≡ true → ToWrite s (rowAt s (rowOf (tagIn (e .made)))) y → ⊥) → cardBy s e card y ≡ card y
+pub card-others : (s : State) (e : Event) (card : Card) (y : ℕ) → let r = rowAt s (rowOf (tagIn (e .made))) in (BeingWritten (planAt s r) (r .awaits) y → ⊥) → cardBy s e card y ≡ card y
 unfolding cardBy
-card-others s e card y sound n =
+card-others s e card y n =
     by-pick (isAway (replyTo s e)) (λ (after : Card). after y ≡ card y) (λ gone. refl)
-    (λ heard. wrote-unless s sound (rowOf (tagIn (e .made))) _ (brought (tagIn (e .made)) (e .made)) card y n)
+    (λ heard. wrote-beside (planAt s (rowAt s (rowOf (tagIn (e .made))))) (rowAt s (rowOf (tagIn (e .made))) .awaits) _ (brought (tagIn (e .made)) (e .made)) card y n)
 
 -- ---- the pool
 

@@ -34,14 +34,15 @@ use Rattle.model.specs.declared.Row.{Row}
 use Rattle.model.specs.declared.Request.{Request}
 use Rattle.model.specs.declared.Call.the-variants.{Write, ReadPage}
 use Rattle.model.specs.State.{State}
+use Rattle.model.specs.Opening.{Plan}
 use Rattle.step.specs.Questions.{regionAt}
 use Rattle.step.specs.Rules.{firstOf, pieceLength, isWhole, Input, Input.answered, Input.flushed, ticketOf, unflushed, flushOutcome}
-use Rattle.step.specs.Step.{startOf, endOf, rowOf, rowAt, bytesAt, planOf, asksFor, names, writesIn}
+use Rattle.step.specs.Step.{startOf, endOf, rowOf, rowAt, bytesAt, planOf, asksFor, names}
 use Rattle.step.specs.Sound.{Sound}
 use Rattle.step.specs.Laws.{Made, Made.calls, Event, leave, next, run, replyTo}
 use Rattle.step.specs.Lists.{brought, isAway, planAt, leftIn, Given, given, tagIn, Completed, gets, cardBy, cardAfter, Hosted, HostMay}
 use Rattle.step.specs.Alone.{tagGiven}
-use Rattle.step.specs.Demand3.{Start, openedBy, after, Mapped}
+use Rattle.step.specs.Demand3.{Start, openedBy, after}
 
 -- ---- the suppositions
 
@@ -64,27 +65,27 @@ unfoldable pub TakenWhole : State → Event → ℕ → Card → Type 0
 TakenWhole s e t card = (i : Input) → brought t (e .made) ≡ some i → isAway (replyTo s e) ≡ false
     → WholeTo s (rowAt s (rowOf t)) (rowAt s (rowOf t) .awaits) i × HoldsCard (leave s (e .leaves)) (rowAt s (rowOf t)) (rowAt s (rowOf t) .awaits) card
 
--- the card bytes that an open write is still to write: of its range those behind the bytes done
-unfoldable pub doneOf : Awaits → ℕ
-doneOf Nothing = 0
-doneOf (Piece k s) = s .done
-doneOf (Flush t) = 0
+-- a card byte of the piece under way of a write
+pub record InPiece (g : Plan) (k : Kind) (sp : Split) (y : ℕ) : Type 0 where
+  pub j : ℕ
+  pub inside : j < pieceLength g k sp
+  pub at : place (g .map) (firstOf k .0 + sp .done) + j ≡ y
 
-pub record ToWrite (s : State) (r : Row) (y : ℕ) : Type 0 where
-  pub mapped : Mapped s r y
-  pub behind : doneOf (r .awaits) ≤ mapped .i
+unfoldable pub BeingWritten : Plan → Awaits → ℕ → Type 0
+BeingWritten g Nothing y = ⊥
+BeingWritten g (Piece (Page a b) sp) y = InPiece g (Page a b) sp y
+BeingWritten g (Piece (Read a b) sp) y = ⊥
+BeingWritten g (Flush t) y = ⊥
 
--- "no other operation writing its bytes meanwhile": an event that brings the operation under the queue tag t nothing leaves the card bytes of the request's range (by
--- card-others below, an answer writes only what its own operation is still to write)
-unfoldable pub Undisturbed : State → Event → ℕ → Request → Card → Type 0
-Undisturbed s e t q card =
-    brought t (e .made) ≡ none → (i : ℕ) → i < q .length → cardBy s e card (place (regionAt s (q .handle) .map) (q .offset .0 + i)) ≡ card (place (regionAt s (q .handle) .map) (q .offset .0 + i))
+-- "no other operation writing its bytes meanwhile": no piece of another write is under way on a card byte of the request's range, however it is answered
+unfoldable pub Undisturbed : State → ℕ → Request → Type 0
+Undisturbed s t q = (r i y : ℕ) → r ≢ rowOf t → BeingWritten (planAt s (rowAt s r)) (rowAt s r .awaits) y → i < q .length → place (regionAt s (q .handle) .map) (q .offset .0 + i) ≡ y → ⊥
 
 -- a list of events, whatever their calls, through which the operation under the queue tag t is served so, until it ends; the card changes as the table's
 -- pieces say
 unfoldable pub Served : State → List Event → ℕ → Request → Card → Type 0
 Served s [] t q card = Unit {0}
-Served s (e ∷ es) t q card = (names (rowAt s (rowOf t)) t ≡ true) × HostMay s (e .leaves) × TakenWhole s e t card × Undisturbed s e t q card × Served (next s e) es t q (cardBy s e card)
+Served s (e ∷ es) t q card = (names (rowAt s (rowOf t)) t ≡ true) × HostMay s (e .leaves) × TakenWhole s e t card × Undisturbed s t q × Served (next s e) es t q (cardBy s e card)
 
 -- ---- the claim
 
@@ -194,6 +195,8 @@ pub record Wrote (x : Start) (h : List Event) (e : Event) (t : ℕ) (q : Request
   -- a durable one without a flush result: neither policy nor forced mark stood at the end
   pub no-flush : Over (run (submittedIn x h e) es) t → q .durable ≡ true → resultGiven (givenTo x h e t es) ≡ none
       → x .opening .flush || regionAt (run (submittedIn x h e) es) (q .handle) .forced ≡ false
+  -- "Plain ends there.": with its pieces done it is over
+  pub plain-over : q .durable ≡ false → PiecesDone (run (submittedIn x h e) es) t → Over (run (submittedIn x h e) es) t
   -- and before, none
   pub none-yet : names (rowAt (run (submittedIn x h e) es) (rowOf t)) t ≡ true → getsIn x h e t q es ≡ []
   pub issues : Issues x h e t q es
@@ -204,6 +207,8 @@ pub record DidRead (x : Start) (h : List Event) (e : Event) (t : ℕ) (q : Reque
       → getsIn x h e t q es
       ≡ (record { tag = q .tag; outcome = readTo (q .length); buf = Back (q .buffer) (q .length) }, gathered card (regionAt (after x h) (q .handle) .map) (q .offset .0) (q .length) ++ drop (q .length) (bufferThen x e q))
       ∷ []
+  -- with its pieces done it is over
+  pub over : PiecesDone (run (submittedIn x h e) es) t → Over (run (submittedIn x h e) es) t
   pub none-yet : names (rowAt (run (submittedIn x h e) es) (rowOf t)) t ≡ true → getsIn x h e t q es ≡ []
   pub issues : Issues x h e t q es
 
@@ -271,9 +276,9 @@ pub record Demand2 : Type 0 where
   pub asked : (x : Start) (h : List Event) (e : Event) (t : ℕ) (q : Request) (made : Made) → (made ≡ calls (Write q)) ⊎ (made ≡ calls (ReadPage q)) → Accepted x h e t q made
       → (es : List Event) → Followed (submittedIn x h e) es t → names (rowAt (run (submittedIn x h e) es) (rowOf t)) t ≡ true
       → lastReply (submittedIn x h e) es t (replyTo (after x h) e) ≡ asksUnder (run (submittedIn x h e) es) t
-  -- "and touch no other byte", of card or pool: an answer changes no card byte but those that its operation is still to write, and no call a byte of a buffer that is not the
-  -- buffer of the live row that its tag names
-  pub card-others : (s : State) (e : Event) (card : Card) (y : ℕ) → Sound s → (writesIn (rowAt s (rowOf (tagIn (e .made))) .awaits) ≡ true → ToWrite s (rowAt s (rowOf (tagIn (e .made)))) y → ⊥) → cardBy s e card y ≡ card y
+  -- "and touch no other byte", of card or pool: an answer changes no card byte but those of its own operation's piece under way, and no call a byte of a buffer that is not
+  -- the buffer of the live row that its tag names
+  pub card-others : (s : State) (e : Event) (card : Card) (y : ℕ) → let r = rowAt s (rowOf (tagIn (e .made))) in (BeingWritten (planAt s r) (r .awaits) y → ⊥) → cardBy s e card y ≡ card y
   pub pool-others : (s : State) (e : Event) (b : ℕ) → Sound (leave s (e .leaves)) → b < s .settings .buffers
       → ((i : Input) → brought (tagIn (e .made)) (e .made) ≡ some i → names (rowAt s (rowOf (tagIn (e .made)))) (tagIn (e .made)) ≡ true → rowAt s (rowOf (tagIn (e .made))) .buffer ≢ b)
       → bytesAt (next s e) b ≡ bytesAt (leave s (e .leaves)) b

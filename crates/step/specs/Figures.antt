@@ -191,7 +191,7 @@ pub record Figures : Type 0 where
   pub not-synced : synced (replyAfter (SetForced 0 true ∷ Write (durably (asking 512 512)) ∷ answers 0 512 ∷ Flushed 0 (Need 0) ∷ []) Take) ≡ some false
   pub synced-7 : synced (replyAfter (SetForced 0 true ∷ Write (durably (asking 512 512)) ∷ answers 0 512 ∷ Flushed 0 (Need 7) ∷ []) Take) ≡ some true
   -- ours: the flush that a durable write asks for, by its tag and the flush count plus one
-  pub flush-asked : replyAfter (SetForced 0 true ∷ Write (durably (asking 512 512)) ∷ []) (Answer 0 (Count 512) true 6) ≡ Flush 0 7
+  pub asks-flush : replyAfter (SetForced 0 true ∷ Write (durably (asking 512 512)) ∷ []) (Answer 0 (Count 512) true 6) ≡ Flush 0 7
   -- ours: a first piece refused keeps the generation and poisons nothing, a lost buffer is never accepted again
   pub refused-first : replyAfter (Write (asking 512 512) ∷ Answer 0 Refused true 0 ∷ []) (Write (asking 512 512)) ≡ piece 0 (offsetOf 1536) 512 0
   pub lost-buffer : numberOf (replyAfter (ReadPage (asking 512 512) ∷ Answer 0 (Count 512) false 0 ∷ Take ∷ []) (ReadPage (asking 512 512))) ≡ some 11
