@@ -27,6 +27,7 @@ use Rattle.replaying.specs.Lines.{LineAt}
 use Rattle.tracelaws.specs.Laws.{StandsAt, Stands, TraceLaws}
 use Rattle.tracelaws.proofs.Tables.{answers-kept}
 use Rattle.tracelaws.proofs.Openings.{opened-open}
+use Rattle.tracelaws.proofs.Names.{own-names}
 
 -- the part and the rest of a pool, cut again where they were joined
 rejoined : (k : ℕ) (p pool : List ℕ) → length p ≡ length (take k pool) → take k (p ++ drop k pool) ≡ p
@@ -91,4 +92,4 @@ unfolding StandsAt
 first-law s = tt
 
 pub trace-laws : TraceLaws
-trace-laws = record { first = first-law; line = λ bytes n s. line-law (s .stage) bytes n s }
+trace-laws = record { first = first-law; own-names = own-names; line = λ bytes n s. line-law (s .stage) bytes n s }

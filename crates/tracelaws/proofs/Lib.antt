@@ -2,3 +2,4 @@
 pub mod Tables
 pub mod Openings
 pub mod Laws
+pub mod Names
