@@ -58,6 +58,8 @@ pub mod Demand2Ends
 pub mod Demand2Begun
 pub mod Demand2Asked
 pub mod Demand2
+pub mod Owners
 pub mod Lost
 pub mod LostBytes
+pub mod Refused
 pub mod Others

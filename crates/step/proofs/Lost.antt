@@ -3,12 +3,11 @@
 use mathlib.Core.Path.{_≡_, refl, sym, ap, _∙_}
 use mathlib.Core.Logic.{_≢_}
 use mathlib.Core.Bool.{true}
+use mathlib.Core.Option.{some}
 use mathlib.Core.List.{List, [], _∷_}
 use Prim.Native.Nat.{ℕ, zero, suc, _<_}
 use native.Mathlib.Omega.{arith}
-use lib.Dec.{ltb}
-use lib.ListN.{length, getD, set}
-use lib.Seq.{getD-set-other}
+use lib.ListN.{length, getD}
 use Rattle.layout.proofs.Tests.{not-both}
 use Rattle.completion.specs.declared.Buffer.{Buffer}
 use Rattle.completion.specs.declared.Buffer.the-variants.{Back, Lost}
@@ -21,15 +20,14 @@ use Rattle.model.specs.declared.Asked.{Asked}
 use Rattle.model.specs.declared.Asked.the-variants.{Yes, No}
 use Rattle.model.specs.declared.Call.{Call}
 use Rattle.model.specs.declared.Call.the-variants.{Write, ReadPage, Answer, Flushed, Take, SetGate, SetReadOnly, SetForced, ReportPoison}
-use Rattle.model.specs.State.{Region, Owner, Owner.host, Owner.table, Owner.lost, State}
+use Rattle.model.specs.State.{Owner, Owner.host, Owner.lost, State}
 use Rattle.step.specs.Questions.{isHost, heldAt, regionAt}
-use Rattle.step.specs.Rules.{Input, Input.answered, Input.flushed, Fate, Fate.away, Fate.awaits, Fate.ends, Fate.rejected}
-use Rattle.step.specs.Step.{rowAt, rowOf, names, accepted, submitted, verdictOf, writeVerdict, readVerdict, going, freeing, settled, fateOf, underTag, givenBack, taken}
-use Rattle.step.specs.Step.{withRegions, withPoison, marked, withGate, withReadOnly, withForced, called, eqLengths, step}
+use Rattle.step.specs.Rules.{Input.answered, Input.flushed}
+use Rattle.step.specs.Step.{rowAt, rowOf, names, submitted, verdictOf, writeVerdict, readVerdict, withPoison, withGate, withReadOnly, withForced, called, eqLengths, step}
 use Rattle.step.specs.Sound.{holds, tableHas, readyHold, Sound}
 use Rattle.step.specs.Laws.{Made, Made.calls, Made.looks, Event, leave, done, next, run, Pools}
 use Rattle.step.specs.Lists.{isAway}
-use Rattle.step.specs.Others.{IsLost}
+use Rattle.step.specs.Others.{IsLost, bufferBack, takenFrom}
 use Rattle.step.proofs.Picked.{by-pick}
 use Rattle.step.proofs.Places.{within}
 use Rattle.step.proofs.Counts.{back-holds-own, has-most}
@@ -39,6 +37,7 @@ use Rattle.step.proofs.Answers.{Passed, write-passed, read-passed}
 use Rattle.step.proofs.Freed.{had}
 use Rattle.step.proofs.Histories.{leaves, kept-through}
 use Rattle.step.proofs.Laws.{keeps}
+use Rattle.step.proofs.Owners.{submitted-same, under-same, taken-same, marked-same}
 
 -- ---- who has a buffer
 
@@ -78,50 +77,30 @@ module _ (s : State) (b : ℕ) (gone : IsLost s b) where
   abbrev StillLost : State × Reply → Type 0
   StillLost z = IsLost (z .0) b
 
-  another-owner : (k : ℕ) (who : Owner) → k ≢ b → getD (set (s .owners) k who) b host ≡ lost
-  another-owner k who n = getD-set-other (s .owners) k b who host (λ e. n (sym e)) ∙ gone
-
-  submitted-lost : (q : Request) (k : Kind) (a : Asked) → (a ≡ Yes → Passed s q) → StillLost (submitted s q (verdictOf a s k q))
-  unfolding submitted verdictOf accepted
-  submitted-lost q k (No f) passes = gone
-  submitted-lost q k Yes passes = another-owner (q .buffer) table (not-held (q .buffer) (passes refl .held))
-
-  marked-lost : (h : ℕ) (g : Region) → StillLost (marked s h g)
-  unfolding marked withRegions
-  marked-lost h g = by-pick (ltb h (s .settings .regions)) StillLost (λ known. gone) (λ unknown. gone)
-
   module _ (sound : Sound s) where
-    settled-lost : (t : ℕ) → names (rowAt s (rowOf t)) t ≡ true → (f : Fate) → StillLost (settled s t (rowAt s (rowOf t)) f)
-    unfolding settled going freeing
-    settled-lost t named (away f) = gone
-    settled-lost t named (awaits a bytes) = gone
-    settled-lost t named (ends o buf bytes cause) = another-owner _ _ (not-had _ (row-had s sound t named))
-    settled-lost t named (rejected e buf bytes) = another-owner _ _ (not-had _ (row-had s sound t named))
+    row-other : (t : ℕ) → names (rowAt s (rowOf t)) t ≡ true → rowAt s (rowOf t) .buffer ≢ b
+    row-other t named = not-had _ (row-had s sound t named)
 
-    under-lost : (t : ℕ) (i : Input) → StillLost (underTag s t i)
-    unfolding underTag
-    under-lost t i = by-pick (names (rowAt s (rowOf t)) t) StillLost (λ named. settled-lost t named (fateOf s (rowAt s (rowOf t)) i)) (λ unnamed. gone)
+    back-other : (c : Completion) (more : List Completion) → s .ready ≡ c ∷ more → (buf : Buffer) → c .buf ≡ buf → bufferBack buf ≢ some b
+    unfolding bufferBack
+    back-other c more e (Back k n) back same = not-had k (ready-had s sound c more k n e back) (cc)
+    back-other c more e Lost back same = clash (cc)
 
-    given-lost : (c : Completion) (more : List Completion) → s .ready ≡ c ∷ more → (buf : Buffer) → c .buf ≡ buf → getD (givenBack (s .owners) buf) b host ≡ lost
-    unfolding givenBack
-    given-lost c more e (Back k n) back = another-owner k host (not-had k (ready-had s sound c more k n e back))
-    given-lost c more e Lost back = gone
-
-    taken-lost : (l : List Completion) → s .ready ≡ l → StillLost (taken s l)
-    unfolding taken
-    taken-lost [] e = gone
-    taken-lost (c ∷ more) e = given-lost c more e (c .buf) refl
+    ready-other : (cs : List Completion) → s .ready ≡ cs → takenFrom cs ≢ some b
+    unfolding takenFrom
+    ready-other [] e same = clash (cc)
+    ready-other (c ∷ more) e same = back-other c more e (c .buf) refl same
 
     called-lost : (c : Call) → StillLost (called s c)
     unfolding called writeVerdict readVerdict withPoison
-    called-lost (Write q) = submitted-lost q _ _ (write-passed s q)
-    called-lost (ReadPage q) = submitted-lost q _ _ (read-passed s q)
-    called-lost (Answer t a back flushes) = under-lost t (answered a back flushes)
-    called-lost (Flushed t result) = under-lost t (flushed result)
-    called-lost Take = taken-lost (s .ready) refl
-    called-lost (SetGate h x) = marked-lost h (withGate (regionAt s h) x)
-    called-lost (SetReadOnly h x) = marked-lost h (withReadOnly (regionAt s h) x)
-    called-lost (SetForced h x) = marked-lost h (withForced (regionAt s h) x)
+    called-lost (Write q) = submitted-same s b q _ _ (λ yes. not-held (q .buffer) (write-passed s q yes .held)) ∙ gone
+    called-lost (ReadPage q) = submitted-same s b q _ _ (λ yes. not-held (q .buffer) (read-passed s q yes .held)) ∙ gone
+    called-lost (Answer t a back flushes) = under-same s b t (answered a back flushes) (row-other t) ∙ gone
+    called-lost (Flushed t result) = under-same s b t (flushed result) (row-other t) ∙ gone
+    called-lost Take = taken-same s b (s .ready) (ready-other (s .ready) refl) ∙ gone
+    called-lost (SetGate h x) = marked-same s b h (withGate (regionAt s h) x) ∙ gone
+    called-lost (SetReadOnly h x) = marked-same s b h (withReadOnly (regionAt s h) x) ∙ gone
+    called-lost (SetForced h x) = marked-same s b h (withForced (regionAt s h) x) ∙ gone
     called-lost (ReportPoison cause) = gone
 
     done-lost : (l : Lengths) (m : Made) → StillLost (done s l m)

@@ -1,4 +1,4 @@
--- The laws of what the other laws leave to the definitions. Lost buffers are Lost's and LostBytes'. A reply that completes comes of the one fate that adds a
+-- The laws of what the other laws leave to the definitions. Who has a buffer is Owners', lost ones are Lost's, LostBytes' and Refused's. A reply that completes comes of the one fate that adds a
 -- completion; a taking, a setting and a report compute; the lookups go by induction on the rows.
 use mathlib.Core.Path.{_≡_, refl, sym, ap, _∙_, subst}
 use mathlib.Core.Bool.{Bool, true, false, _||_}
@@ -51,7 +51,9 @@ use Rattle.step.proofs.ProjectionHost.{live-in-table}
 use Rattle.step.proofs.Asked.{called-is}
 use Rattle.step.proofs.ListsBrought.{brings}
 use Rattle.step.proofs.Lost.{ready-had, had-in, stays-lost, lost-refused}
+use Rattle.step.proofs.Owners.{others-kept}
 use Rattle.step.proofs.LostBytes.{lost-lies}
+use Rattle.step.proofs.Refused.{loses, first-refused}
 
 -- ---- the reply that completes
 
@@ -97,7 +99,7 @@ module _ (s : State) (l : Lengths) (same : eqLengths l (s .lengths) ≡ true) wh
           ∙ ap isHost (getD-set-same (s .owners) b host lost (had-in (s .owners) b (ready-had s sound c more b n e back)))
 
   -- a region in the place of one that the opening was given so
-  sets : (c : Call) (h : ℕ) (g : Region) → Sound s → h < s .settings .regions → called s c ≡ marked s h g → planOf g ≡ planOf (regionAt s h) → MarksSet s (step s l c .0) h (g .gate) (g .readOnly) (g .forced)
+  sets : (c : Call) (h : ℕ) (g : Region) → Sound s → h < s .settings .regions → called s c ≡ marked s h g → planOf g ≡ planOf (regionAt s h) → MarksSet s (step s l c .0) (step s l c .1) h (g .gate) (g .readOnly) (g .forced)
   unfolding withRegions planOf regionAt marked
   sets c h g sound known call plan =
       subst Set (sym (called-is s l same c ∙ call))
@@ -107,15 +109,20 @@ module _ (s : State) (l : Lengths) (same : eqLengths l (s .lengths) ≡ true) wh
             ∙ (λ i. record { id = plan i .id; generation = plan i .generation; map = plan i .map; gate = g .gate; readOnly = g .readOnly; forced = g .forced });
         others = λ k n. getD-set-other (s .regions) h k g noRegion n;
         rest = refl;
+        reply = refl;
       })
       (λ unnamed. absurd (not-both (lt-ltb h (s .settings .regions) known) unnamed)))
     where
       Set : State × Reply → Type 0
-      Set z = MarksSet s (z .0) h (g .gate) (g .readOnly) (g .forced)
+      Set z = MarksSet s (z .0) (z .1) h (g .gate) (g .readOnly) (g .forced)
 
-  reports : (cause : FirstCause) → s .poison ≡ Never → step s l (ReportPoison cause) ≡ (withPoison s (First cause), Ok)
+  reports : (p : Poisoned) (cause : FirstCause) → s .poison ≡ p → step s l (ReportPoison cause) ≡ (withPoison s (firstKept p cause), Ok)
   unfolding called
-  reports cause e = called-is s l same (ReportPoison cause) ∙ ap (λ (p : Poisoned). (withPoison s (firstKept p cause), Ok)) e
+  reports p cause e = called-is s l same (ReportPoison cause) ∙ ap (λ (p : Poisoned). (withPoison s (firstKept p cause), Ok)) e
+
+  reports-later : (cause first : FirstCause) → s .poison ≡ First first → step s l (ReportPoison cause) ≡ (s, Ok)
+  unfolding withPoison
+  reports-later cause first e = reports (First first) cause e ∙ ap (λ (p : Poisoned). (withPoison s p, Ok)) (sym e)
 
 -- ---- the lookups
 
@@ -168,16 +175,20 @@ mark-none s l same dead = looked s l same MarkNow ∙ rw (eq-eqb (liveRows (s .r
 pub other-laws : OtherLaws
 unfolding withGate withReadOnly withForced planOf called lookedUp rowAt taken
 other-laws = record {
+  others-kept = others-kept;
+  loses = λ s l t a flushes. loses s t a flushes l;
   stays-lost = stays-lost;
   lost-refused = lost-refused;
   lost-lies = lost-lies;
+  first-refused = λ s l t k sp a back flushes sound. first-refused s l t k sp a back flushes;
   done = λ s l c t i e. says-done s t l c i e;
   takes = λ s l c more sound same e. takes s l same c more sound e;
   takes-none = λ s l same e. take-is s l same [] e;
   sets-gate = λ s l h x sound same known. sets s l same (SetGate h x) h (withGate (regionAt s h) x) sound known refl refl;
   sets-read-only = λ s l h x sound same known. sets s l same (SetReadOnly h x) h (withReadOnly (regionAt s h) x) sound known refl refl;
   sets-forced = λ s l h x sound same known. sets s l same (SetForced h x) h (withForced (regionAt s h) x) sound known refl refl;
-  reports = λ s l cause same e. reports s l same cause e;
+  reports = λ s l cause same e. reports s l same Never cause e;
+  reports-later = λ s l cause first same e. reports-later s l same cause first e;
   writes = λ s l r a b sp same e. looked s l same WritesLive ∙ ap Writes (some-write (s .rows) r a b sp e);
   no-writes = λ s l same h. looked s l same WritesLive ∙ ap Writes (no-write (s .rows) h);
   mark = mark;

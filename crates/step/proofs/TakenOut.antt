@@ -17,7 +17,7 @@ use Rattle.step.proofs.Marked.{in-another}
 
 given-length : (owners : List Owner) (buf : Buffer) → length (givenBack owners buf) ≡ length owners
 unfolding givenBack
-given-length owners (Back b n) = length-set owners b host
+given-length owners (Back b n) = simp length-set
 given-length owners Lost = refl
 
 -- with the buffer given back, those who are left hold what the table has
