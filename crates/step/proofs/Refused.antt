@@ -16,6 +16,7 @@ use Rattle.platform.specs.declared.Answer.the-variants.{Count, Error, Refused, 
 use Rattle.completion.specs.declared.Refusal.the-variants.{UnknownTag}
 use Rattle.completion.specs.declared.Reply.{Reply}
 use Rattle.completion.specs.declared.Reply.the-variants.{No as turnedAway}
+use Rattle.completion.specs.declared.Buffer.the-variants.{Back}
 use Rattle.model.specs.declared.Opening.{Opening}
 use Rattle.model.specs.declared.Lengths.{Lengths}
 use Rattle.model.specs.declared.Kind.{Kind}
@@ -27,7 +28,7 @@ use Rattle.model.specs.declared.Row.{Row}
 use Rattle.model.specs.declared.Call.the-variants.{Answer}
 use Rattle.model.specs.State.{Owner.host, Owner.lost, State, freed}
 use Rattle.model.specs.Opening.{Plan}
-use Rattle.step.specs.Questions.{regionAt}
+use Rattle.step.specs.Questions.{isHost, regionAt, heldAt}
 use Rattle.step.specs.Rules.{rangeOf, bufferAs, errorOf, isWritten, lastPiece, abovePiece, isRefusal, firstRefused, isWhole, goesOn, pieceLength, pieceAnswered, answerRules, rules}
 use Rattle.step.specs.Rules.{Input.answered, Fate, Fate.rejected}
 use Rattle.step.specs.Step.{rowAt, rowOf, names, bytesAt, oneLess, keptBy, poisonWith, freeing, planOf, rejection, settled, fateOf, underTag, called, eqLengths, step}
@@ -117,12 +118,22 @@ module _ (s : State) (l : Lengths) (t : ℕ) (k : Kind) (sp : Split) (a : CardAn
       ∙ ap (λ (b : Bool). pick b (settled s t it (fateOf s it (answered a back flushes))) (s, turnedAway UnknownTag)) named
       ∙ ap (settled s t it) fate-is
 
-  pub first-refused : FirstRefused s (step s l (Answer t a back flushes) .0) (step s l (Answer t a back flushes) .1) (rowOf t) k sp a back
+  its-own : Sound s → heldAt (settled s t it (rejected (errorOf a) (Back (it .buffer) (sp .total)) (bytesAt s (it .buffer))) .0) (it .buffer) ≡ true
+  unfolding settled freeing keptBy heldAt
+  its-own sound = ap isHost (getD-set-same (s .owners) (it .buffer) host lost (had-in (s .owners) (it .buffer) (row-had s sound t named))) ∙ (unfold isHost in refl)
+
+  given-back : Sound s → (b : Bool) → b ≡ true → heldAt (settled s t it (rejected (errorOf a) (bufferAs b (it .buffer) (sp .total)) (bytesAt s (it .buffer))) .0) (it .buffer) ≡ true
+  unfolding bufferAs
+  given-back sound true e = its-own sound
+  given-back sound false e = absurd (not-both e refl)
+
+  pub first-refused : Sound s → FirstRefused s (step s l (Answer t a back flushes) .0) (step s l (Answer t a back flushes) .1) (rowOf t) k sp a back
   unfolding settled freeing rejection rangeOf planOf poisonWith oneLess
-  first-refused =
+  first-refused sound =
       subst (λ (z : State × Reply). FirstRefused s (z .0) (z .1) (rowOf t) k sp a back) (sym step-is)
       (record {
         replies = ap (λ (w : Awaits). rejection (planOf (regionAt s (it .handle))) w (errorOf a) (bufferAs back (it .buffer) (sp .total))) waits;
+        given-back = given-back sound back;
         row = row-then s t it named refl (settled s t it fate .0) (freed (it .generation)) refl;
         free = refl;
         spent = refl;

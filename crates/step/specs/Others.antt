@@ -63,6 +63,7 @@ aboutBuffer s (ReportPoison cause) = none
 -- back, with the whole length. No completion, no poison.": the reply, and what is left of the row in place r
 pub record FirstRefused (s s′ : State) (reply : Reply) (r : ℕ) (k : Kind) (sp : Split) (a : CardAnswer) (back : Bool) : Type 0 where
   pub replies : reply ≡ Rejected (record { region = regionAt s (rowAt s r .handle) .id; start = firstOf k; end = lastOf k }) (opOf k) (errorOf a) (bufferAs back (rowAt s r .buffer) (sp .total))
+  pub given-back : back ≡ true → heldAt s′ (rowAt s r .buffer) ≡ true
   pub row : rowAt s′ r ≡ freed (rowAt s r .generation)
   pub free : s′ .free ≡ r ∷ s .free
   pub spent : s′ .counts .submissions ≡ s .counts .submissions
