@@ -23,6 +23,7 @@ pub mod Histories
 pub mod Transfers
 pub mod Laws
 pub mod Figures
+pub mod Orders
 pub mod AloneTags
 pub mod Asked
 pub mod QuietRules

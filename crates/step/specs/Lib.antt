@@ -10,3 +10,4 @@ pub mod Alone
 pub mod Demand3
 pub mod Demand2
 pub mod Figures
+pub mod Orders
