@@ -68,6 +68,12 @@ pub record Begun (r : Input) : Type 0 where
   pub none : r .got ≤ r .at
   pub ended : r .ended ≡ false
 
+-- a turn of a program that answers lines: a step in the input, and the line answered if that made it whole. `leaves` is what a line of given bytes and number leaves.
+pub record Turned {S : Type 0} (leaves : List ℕ → ℕ → S → S → Type 0) (i r : Input) (line line′ chunk chunk′ : List ℕ) (s s′ : S) : Type 0 where
+  pub next : Next i r line line′ chunk chunk′
+  pub whole : r .whole ≡ true → (bytes : List ℕ) → Kept (r .reader) line′ bytes → leaves bytes (r .number) s s′
+  pub part : r .whole ≡ false → s′ ≡ s
+
 -- ---- the lines of an input, of which the first has come as far as `line`
 
 unfoldable pub lastOf : List ℕ → List (List ℕ)

@@ -1,11 +1,7 @@
 // optrun: document 01's opening and a flush count of 0. It reads lines from standard input and answers each: `piece QTAG OFFSET COUNT`, `no` and the
-// number, what a taking took, or `bad` and the line's number. What a line says, what is called and what is printed stand in the crates calllines, linecalls
-// and runner; here the input is cut at LF and the lines are counted.
-use input::Input;
-use lineforms::Said;
-use model::Counts;
-use model::Row;
-use runner::Answered;
+// number, what a taking took, or `bad` and the line's number. What a line says and how it is answered stands in the crates runner and running; here lines are read
+// until the input ends.
+use running::Running;
 use submitter::Opened;
 
 // The one region of the figures: id, generation, first offset, capacity, data length, one further run.
@@ -20,92 +16,6 @@ fn plan() -> [u64; 70] {
     p[6] = 1024;
     p[7] = 8192;
     p
-}
-
-// What is said: nothing while the line is not complete.
-fn said_in(i: Input, line: &[u8; 4096]) -> Said {
-    if !i.whole {
-        return Said::Comment;
-    }
-    let reader = i.reader;
-    calllines::optrun_line(calllines::finish(reader, line))
-}
-
-// Prints the front of a buffer that holds any line.
-fn print_line(out: &[u8; 128], n: usize) {
-    input::print(out, n)
-}
-
-// A line is answered, and the answer printed.
-fn answer(
-    said: Said,
-    number: u64,
-    counts: Counts,
-    rows: [Row; 64],
-    store: &mut [u64],
-    free: &mut [u64],
-    ready: &mut [u64],
-    owners: &mut [u64],
-    pool: &mut [u8],
-) -> Answered {
-    let mut out = [0u8; 128];
-    let a = runner::answer(
-        linecalls::asked(said, runner::named(), 0), // "a flush count of 0"
-        number,
-        counts,
-        rows,
-        store,
-        free,
-        ready,
-        owners,
-        pool,
-        &mut out,
-    );
-    print_line(&out, a.printed);
-    a
-}
-
-// The table's rows and counts, and where the input stands.
-struct Running {
-    rows: [Row; 64],
-    counts: Counts,
-    from: Input,
-}
-
-// Goes on in the input, and answers the line if it is complete.
-fn turn(
-    r: Running,
-    line: &mut [u8; 4096],
-    chunk: &mut [u8; 4096],
-    store: &mut [u64],
-    free: &mut [u64],
-    ready: &mut [u64],
-    owners: &mut [u64],
-    pool: &mut [u8],
-) -> Running {
-    let was = r.from;
-    let rows = r.rows;
-    let counts = r.counts;
-    let from = input::next(was, line, chunk);
-    let said = said_in(from, line);
-    let a = answer(
-        said,
-        from.number,
-        counts,
-        rows,
-        store,
-        free,
-        ready,
-        owners,
-        pool,
-    );
-    let held = a.rows;
-    let counted = a.counts;
-    Running {
-        rows: held,
-        counts: counted,
-        from,
-    }
 }
 
 // Reads lines until the input ends, and answers each. A loop has to end: it counts its turns down, from a number that no run uses up.
@@ -126,7 +36,7 @@ fn run(
         if from.ended {
             return;
         }
-        now = turn(now, &mut line, &mut chunk, store, free, ready, owners, pool);
+        now = running::turn(now, &mut line, &mut chunk, store, free, ready, owners, pool);
         turns -= 1;
     }
 }

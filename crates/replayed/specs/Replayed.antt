@@ -1,11 +1,11 @@
 -- A trace as far as it was read and answered. What is printed goes to the system's `write`, of which nothing is promised: here stands what becomes of the rest.
 use mathlib.Core.Path.{_≡_}
-use mathlib.Core.Bool.{Bool, true, false}
+use mathlib.Core.Bool.{Bool, true}
 use mathlib.Core.List.{List}
 use Prim.Native.Nat.{ℕ}
 use Rattle.trace.specs.Trace.{Kept}
 use Rattle.called.specs.Called.{lentOf}
-use Rattle.input.specs.Input.{Next}
+use Rattle.input.specs.Input.{Turned as TurnedIn}
 use Rattle.unopened.specs.declared.Stage.{Stage}
 use Rattle.unopened.specs.declared.Stage.the-variants.{Before, Planned, Table, Refused, Over}
 use Rattle.unopened.specs.Unopened.{Stood, stoodAt}
@@ -25,10 +25,8 @@ abbrev pub Answers : Running → Running → List ℕ → Stood → Stood → Ty
 Answers r r′ line s s′ = (r′ .from ≡ r .from) × ((bytes : List ℕ) → Kept (r .from .reader) line bytes → Leaves bytes (r .from .number) s s′)
 
 -- a step in the input, and the line answered if that made it whole
-pub record Turned (r r′ : Running) (line line′ chunk chunk′ : List ℕ) (s s′ : Stood) : Type 0 where
-  pub next : Next (r .from) (r′ .from) line line′ chunk chunk′
-  pub whole : r′ .from .whole ≡ true → (bytes : List ℕ) → Kept (r′ .from .reader) line′ bytes → Leaves bytes (r′ .from .number) s s′
-  pub part : r′ .from .whole ≡ false → s′ ≡ s
+abbrev pub Turned : Running → Running → List ℕ → List ℕ → List ℕ → List ℕ → Stood → Stood → Type 0
+Turned r r′ line line′ chunk chunk′ s s′ = TurnedIn Leaves (r .from) (r′ .from) line line′ chunk chunk′ s s′
 
 -- whether the program ends: "prints `limit`, and the program ends", or the input has ended
 unfoldable pub overAt : Stage → Bool → Bool

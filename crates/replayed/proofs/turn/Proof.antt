@@ -1,7 +1,10 @@
--- `replayed::turn` meets its contract: by whether the line is whole (Turns).
+-- `replayed::turn` meets its contract: by whether the line is whole (input Turns.antt).
+use mathlib.Core.Path.{refl}
 use borrow.Author.Tests.{not-true}
 use borrow.Author.Needs.{needs}
-use Rattle.replayed.proofs.Turns.{answered, unanswered}
+use Rattle.input.proofs.Turns.{answered, unanswered}
+use Rattle.replayed.specs.Replayed.{Leaves}
+use Rattle.replayed.proofs.Turns.{same}
 use Rattle.replayed.proofs.turn.Statement.{statement}
 use Rattle.replayed.proofs.turn.Tie as tie
 
@@ -32,13 +35,15 @@ returns c =
     let tested = ran .before .before .before .before .before .before .before .before in
     let step = tested .before .before in
     let a = step .before .before .before .before .before .before .before .before .args in
-    answered (a .r) _ _ (tested .before .moved .ensures) _ _ _ _ (step .next .ensures) (a .plan .now) (a .store .now) (a .free .now) (a .ready .now) (a .owners .now) (a .pool .now) (tested .if1 .taken) _ _ (ran .answer .ensures)
+    let to = tested .before .moved in
+    answered Leaves _ _ _ _ _ _ (step .next .ensures) _ _ (same (a .r) (to .result) (a .plan .now) (a .store .now) (a .free .now) (a .ready .now) (a .owners .now) (a .pool .now) (to .ensures .1)) _ _ (to .ensures .0) (ran .answer .ensures .0) (tested .if1 .taken) _ (ran .answer .ensures .1)
 
 returns-2 : tie.Need-returns-2
 returns-2 c =
     let step = c .before .before in
     let a = step .before .before .before .before .before .before .before .before .args in
-    unanswered (a .r) _ _ (c .before .moved .ensures) _ _ _ _ (step .next .ensures) (a .plan .now) (a .store .now) (a .free .now) (a .ready .now) (a .owners .now) (a .pool .now) (c .if1 .left)
+    let to = c .before .moved in
+    unanswered Leaves _ _ _ _ _ _ (step .next .ensures) _ _ (same (a .r) (to .result) (a .plan .now) (a .store .now) (a .free .now) (a .ready .now) (a .owners .now) (a .pool .now) (to .ensures .1)) _ _ (to .ensures .0) refl (c .if1 .left)
 
 pub turn-spec : {M : Type 1} → statement M
 turn-spec =

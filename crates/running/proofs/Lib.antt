@@ -1,0 +1,2 @@
+-- Proofs about the functions of src/.
+pub mod Turns
