@@ -4,20 +4,6 @@
 use running::Running;
 use submitter::Opened;
 
-// The one region of the figures: id, generation, first offset, capacity, data length, one further run.
-fn plan() -> [u64; 70] {
-    let mut p = [0u64; 70];
-    p[0] = 7;
-    p[1] = 3;
-    p[2] = 1024;
-    p[3] = 2048;
-    p[4] = 2048;
-    p[5] = 1;
-    p[6] = 1024;
-    p[7] = 8192;
-    p
-}
-
 // Reads lines until the input ends, and answers each. A loop has to end: it counts its turns down, from a number that no run uses up.
 fn run(
     r: Running,
@@ -47,7 +33,7 @@ fn main() {
     let mut ready = [0u64; 33];
     let mut owners = [0u64; 3];
     let mut pool = [0u8; 6144];
-    let plan = plan();
+    let plan = running::plan();
     let rows = [optable::freed_row(0); 64];
     let opened = host::open_in(
         runner::figures(),

@@ -6,6 +6,7 @@ ghost use Prim.Native.Nat.{ℕ, _≤_};
 ghost use lib.ListN.{take};
 ghost use Rattle.called.specs.Called.{lentOf};
 ghost use Rattle.trace.specs.Trace.{Kept};
+ghost use Rattle.step.specs.Figures.{figuresPlan};
 ghost use Rattle.running.specs.Running.{Line, standing, Answers, Turned};
 use input::Input;
 use model::Counts;
@@ -20,8 +21,24 @@ pub struct Running {
     pub from: Input,
 }
 
+// The one region of the figures: id, generation, first offset, capacity, data length, one further run.
+pub fn plan() -> [u64; 70]
+    ensures { λ r. ⌜ r ≡ figuresPlan ⌝ }
+{
+    let mut p = [0u64; 70];
+    p[0] = 7;
+    p[1] = 3;
+    p[2] = 1024;
+    p[3] = 2048;
+    p[4] = 2048;
+    p[5] = 1;
+    p[6] = 1024;
+    p[7] = 8192;
+    p
+}
+
 // A line is answered: "a flush count of 0".
-pub fn line(
+fn line(
     r: Reader,
     text: &[u8; 4096],
     number: u64,
