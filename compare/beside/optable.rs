@@ -5,12 +5,6 @@ impl Table {
         self.rows.iter().map(|row| row.generation).collect()
     }
 
-    /// Gives a free row another generation, for the figure that no trace reaches.
-    pub(crate) fn set_generation(&mut self, row: usize, generation: u32) {
-        assert!(self.rows[row].live.is_none(), "a row in use keeps its generation");
-        self.rows[row].generation = generation;
-    }
-
     /// The free stack, its top first.
     pub(crate) fn free_rows(&self) -> Vec<u32> {
         self.free.iter().rev().copied().collect()

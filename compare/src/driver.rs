@@ -99,11 +99,6 @@ impl Driver {
         self.refused.is_some()
     }
 
-    /// Gives a free row another generation (a figure of document 01 that no trace reaches).
-    pub fn set_generation(&mut self, row: usize, generation: u32) {
-        self.submitter.core_mut().table.set_generation(row, generation);
-    }
-
     fn queue_mut(&mut self) -> &mut CardQueue {
         &mut self.submitter.core_mut().queue
     }
