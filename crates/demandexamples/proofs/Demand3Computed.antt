@@ -1,11 +1,10 @@
 -- What the example of demand 3 comes to by computation: the tests of Acts, the table's replies, what each operation gets in the first list, and where the open
 -- operations lie.
 use mathlib.Core.Path.{_≡_, refl}
-use mathlib.Core.Bool.{Bool, true, false, not, _||_}
+use mathlib.Core.Bool.{true, false}
 use mathlib.Core.List.{List, [], _∷_, _++_}
 use Prim.Native.Nat.{ℕ, zero, suc}
 use lib.ListN.{getD, take, replicate}
-use lib.Dec.{leb, eqb}
 use Rattle.layout.specs.Pick.{pick}
 use Rattle.layout.specs.Block.{powerBelow, isBlock, onBlock}
 use Rattle.regionmap.specs.Map.{spanFrom, runOf, runEnd, runLeft, place, pieceSize, ascends, spansFrom, spans, extent, extents, apart, apartFrom, allApart, allWithin}
@@ -30,6 +29,7 @@ use Rattle.step.specs.Lists.{broughtBy, brought, isAway, loose, planAt, Given, 
 use Rattle.step.specs.Demand3.{listedCall, isListed, isWrite}
 use Rattle.demandexamples.specs.Acts.{madeIn, fronted, leavesOf, lengthsOf, eventsOf, replies}
 use Rattle.demandexamples.specs.Demand3Lists.{opening, plan, lengths, table, aByteShort, aRowMore, submissions, s, byFlush, first, second, l₁, l₂, inTwo, readShort, readLost, synced, readFailed, flushFailed, replies₁, replies₂}
+use Rattle.demandexamples.proofs.Beside.{beside, Laid}
 use Rattle.demandexamples.proofs.Acts.{inBuffer, permits, permitted, fairTo, fairIn, fair, fits, bytesIn, toldBy, told, allCome, tells, telling}
 
 pub admitted : opens opening plan lengths ≡ true
@@ -52,11 +52,6 @@ by-row P a b c d e f more (suc (suc (suc (suc zero)))) = e
 by-row P a b c d e f more (suc (suc (suc (suc (suc zero))))) = f
 by-row P a b c d e f more (suc (suc (suc (suc (suc (suc r)))))) = more r
 
--- the range of one of two rows ends before the other's starts, or one is not live, or they are one
-unfoldable pub beside : ℕ → ℕ → Bool
-beside r k =
-    not (isLive (rowAt s r .awaits)) || (not (isLive (rowAt s k .awaits)) || (eqb r k || (leb (rangeEnd (rowAt s r .awaits)) (rangeStart (rowAt s k .awaits)) || leb (rangeEnd (rowAt s k .awaits)) (rangeStart (rowAt s r .awaits)))))
-
 -- what both lists tell the operation in a row
 pub record Alike (r : ℕ) (what : List Given) : Type 0 where
   pub telling₁ : telling s first (tagAt s r) ≡ true
@@ -77,11 +72,7 @@ pub record Computed : Type 0 where
   pub replied₂ : replies s l₂ ≡ replies₂
   pub wrote₁ : (getD (run s (take 4 l₁) .pool) 0 0 ≡ 5) × (getD (run s (take 5 l₁) .pool) 0 0 ≡ 7)
   pub wrote₂ : (getD (run s (take 10 l₂) .pool) 3072 0 ≡ 8) × (getD (run s (take 11 l₂) .pool) 3072 0 ≡ 7)
-  pub capacity : regionAt s 0 .map .capacity ≡ 4096
-  pub regions : s .settings .regions ≡ 1
-  pub handles : (r : ℕ) → rowAt s r .handle ≡ 0
-  pub inside : (r : ℕ) → leb (rangeEnd (rowAt s r .awaits)) 4096 ≡ true
-  pub all-beside : (r k : ℕ) → beside r k ≡ true
+  pub laid : Laid s 4096
   pub none-else : (r : ℕ) → isLive (rowAt s (suc (suc (suc (suc (suc (suc r)))))) .awaits) ≡ false
   pub alike-0 : Alike 0 ((answered (Count 512) true 0, []) ∷ (answered (Count 512) true 0, []) ∷ [])
   pub alike-1 : Alike 1 ((answered (Count 100) true 0, replicate 100 9 ++ replicate 412 1) ∷ [])
@@ -117,11 +108,13 @@ computed = record {
   replied₂ = refl;
   wrote₁ = (refl, refl);
   wrote₂ = (refl, refl);
-  capacity = refl;
-  regions = refl;
-  handles = by-row _ refl refl refl refl refl refl (λ r. refl);
-  inside = by-row _ refl refl refl refl refl refl (λ r. refl);
-  all-beside = by-row _ (by-row _ refl refl refl refl refl refl (λ r. refl)) (by-row _ refl refl refl refl refl refl (λ r. refl)) (by-row _ refl refl refl refl refl refl (λ r. refl)) (by-row _ refl refl refl refl refl refl (λ r. refl)) (by-row _ refl refl refl refl refl refl (λ r. refl)) (by-row _ refl refl refl refl refl refl (λ r. refl)) (λ r k. refl);
+  laid = record {
+    capacity-is = refl;
+    regions = refl;
+    handles = by-row _ refl refl refl refl refl refl (λ r. refl);
+    inside = by-row _ refl refl refl refl refl refl (λ r. refl);
+    all-beside = by-row _ (by-row _ refl refl refl refl refl refl (λ r. refl)) (by-row _ refl refl refl refl refl refl (λ r. refl)) (by-row _ refl refl refl refl refl refl (λ r. refl)) (by-row _ refl refl refl refl refl refl (λ r. refl)) (by-row _ refl refl refl refl refl refl (λ r. refl)) (by-row _ refl refl refl refl refl refl (λ r. refl)) (λ r k. refl);
+  };
   none-else = λ r. refl;
   alike-0 = record { telling₁ = refl; telling₂ = refl; told₁ = refl; told₂ = refl };
   alike-1 = record { telling₁ = refl; telling₂ = refl; told₁ = refl; told₂ = refl };

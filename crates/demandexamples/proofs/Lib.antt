@@ -2,5 +2,7 @@
 pub mod Quiet
 pub mod Acts
 pub mod Demand2Example
+pub mod Beside
 pub mod Demand3Computed
 pub mod Demand3Example
+pub mod OrdersSupposed

@@ -1,2 +1,3 @@
 pub mod Acts
 pub mod Demand3Lists
+pub mod OrdersSupposed

@@ -1,6 +1,5 @@
 -- `replayed::turn` meets its contract: by whether the line is whole (input Turns.antt).
 use mathlib.Core.Path.{refl}
-use borrow.Author.Tests.{not-true}
 use borrow.Author.Needs.{needs}
 use Rattle.input.proofs.Turns.{answered, unanswered}
 use Rattle.replayed.specs.Replayed.{Leaves}
