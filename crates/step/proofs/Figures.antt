@@ -1,5 +1,6 @@
--- Document 01's figures, by computation: every definition on the way is opened.
+-- Document 01's figures, by computation: every definition on the way is opened; only the generation after rounds is by induction (Rounds.antt).
 use mathlib.Core.Path.{refl}
+use native.Mathlib.Omega.{arith}
 use Rattle.layout.specs.Pick.{pick}
 use Rattle.layout.specs.Block.{powerBelow, isBlock, onBlock}
 use Rattle.regionmap.specs.Map.{spanFrom, runOf, runEnd, runLeft, place, pieceSize, ascends, spansFrom, spans, extent, extents, apart, apartFrom, allApart, allWithin}
@@ -18,10 +19,11 @@ use Rattle.step.specs.Step.{durableAs, claimedBy, oneMore, accepted, row
 use Rattle.step.specs.Step.{completionOf, rejection, settled, fateOf, underTag, givenBack, taken, withRegions, marked, withForced}
 use Rattle.step.specs.Step.{queueTag, topOf, rowAt, verdictOf, writeVerdict, readVerdict, submitted, eqLengths, called, step}
 use Rattle.step.specs.Laws.{issuedUpTo}
-use Rattle.step.specs.Figures.{figuresOpening, figuresPlan, figuresLengths, figuresTable, asking, replyAfter, tableAfter, numberOf, valuesOf, durably, inBuffer, rangeThere, byWrite, lastGeneration, generationAfter, receiptSynced, synced, ticketThere, Figures}
+use Rattle.step.specs.Figures.{figuresOpening, figuresPlan, figuresLengths, figuresTable, asking, replyAfter, tableAfter, numberOf, valuesOf, durably, inBuffer, rangeThere, byWrite, longOpening, receiptSynced, synced, ticketThere, Figures}
+use Rattle.step.proofs.Rounds.{generation-after}
 
 pub figures : Figures
-unfolding figuresOpening figuresPlan figuresLengths figuresTable asking replyAfter tableAfter durably inBuffer rangeThere byWrite lastGeneration generationAfter receiptSynced synced ticketThere numberOf number valuesOf values contextValues rangeFrom issuedUpTo
+unfolding figuresOpening figuresPlan figuresLengths figuresTable asking replyAfter tableAfter durably inBuffer rangeThere byWrite longOpening receiptSynced synced ticketThere numberOf number valuesOf values contextValues rangeFrom issuedUpTo
     opOf firstOf lastOf rangeOf pieceOf pieceLength bufferAs errorOf turnedBack isWritten causeOf failedRead readOutcome readLength ticketOf unflushed writtenAs lastPiece
     abovePiece isRefusal firstRefused isWhole goesOn splitAfter pieceAnswered flushOutcome flushEnds answerRules flushRules rules receiptFor
     durableAs claimedBy oneMore accepted rowOf generationOf isLive names bytesAt raised awaitsNow oneLess keptBy poisonWith going freeing planOf asksFor
@@ -53,7 +55,10 @@ figures = record {
   read-612 = refl;
   write-unknown = refl;
   poisons = refl;
-  last-generation = refl;
+  opens-long = refl;
+  generation-after = generation-after;
+  reaches-the-last = generation-after 4294967295 (omega arith);
+  last-generation = generation-after 4294967296 (omega arith);
   not-synced = refl;
   synced-7 = refl;
   asks-flush = refl;

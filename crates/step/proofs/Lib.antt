@@ -22,9 +22,10 @@ pub mod Poisoned
 pub mod Histories
 pub mod Transfers
 pub mod Laws
+pub mod AloneTags
+pub mod Rounds
 pub mod Figures
 pub mod Orders
-pub mod AloneTags
 pub mod Asked
 pub mod QuietRules
 pub mod ProjectionFixed

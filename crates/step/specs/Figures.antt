@@ -1,12 +1,12 @@
--- Document 01, "Figures": the starred ones, as one table, of the definitions, of tables reached by calls; only the table whose row 0 has its last generation is
--- given as it stands, since no lifetime of 1,000 reaches it.
+-- Document 01, "Figures": the starred ones, as one table, of the definitions, of tables reached by calls; the table whose row 0 has its last generation has the
+-- longest lifetime, since no lifetime of 1,000 reaches it.
 -- "Opening: volume 1, region 7, generation 3, block 512, card 16,384; first offset 1,024, one further run (1,024, 8,192), capacity and data 2,048;
 -- depth 2, three buffers of 2,048, lifetime 1,000, store writable, no flush policy, flush count 0."
 use mathlib.Core.Path.{_≡_}
 use mathlib.Core.Bool.{Bool, true, false}
 use mathlib.Core.Option.{Option, none, some}
 use mathlib.Core.List.{List, [], _∷_}
-use Prim.Native.Nat.{ℕ, _-_, _^_}
+use Prim.Native.Nat.{ℕ, zero, suc, _-_, _%_, _^_, _≤_}
 use lib.ListN.{replicate}
 use Rattle.regionmap.specs.declared.FoundPiece.{FoundPiece}
 use Rattle.regionmap.specs.Words.{positionOf, offsetOf}
@@ -29,11 +29,11 @@ use Rattle.model.specs.declared.Lengths.{Lengths}
 use Rattle.model.specs.declared.Request.{Request}
 use Rattle.model.specs.declared.Call.{Call}
 use Rattle.model.specs.declared.Call.the-variants.{Write, ReadPage, Answer, Flushed, Take, SetForced}
-use Rattle.model.specs.State.{State, freed}
+use Rattle.model.specs.State.{State}
 use Rattle.model.specs.Opening.{opened}
 use Rattle.model.specs.Memory.{plansIn, opens}
 use Rattle.step.specs.Questions.{regionAt}
-use Rattle.step.specs.Step.{step, begun, rowAt}
+use Rattle.step.specs.Step.{step, begun, rowAt, queueTag}
 use Rattle.step.specs.Laws.{issuedUpTo}
 
 unfoldable pub figuresOpening : Opening
@@ -89,14 +89,22 @@ rangeThere = record { region = 7; start = positionOf 512; end = positionOf 1536 
 unfoldable pub byWrite : FirstCause
 byWrite = record { op = writeOp; raw = noError }
 
--- the table of the figures with row 0 at the last generation
-unfoldable pub lastGeneration : State
-lastGeneration =
-    record { settings = figuresTable .settings; lengths = figuresTable .lengths; regions = figuresTable .regions; poison = figuresTable .poison; counts = figuresTable .counts; rows = freed 4294967295 ∷ freed 0 ∷ []; free = figuresTable .free; ready = figuresTable .ready; owners = figuresTable .owners; pool = figuresTable .pool }
+-- the same opening with the longest lifetime: "1 to 2^62 submissions."
+unfoldable pub longOpening : Opening
+longOpening =
+    record { block = 512; depth = 2; lifetime = 2 ^ 62; card = 16384; buffers = 3; capacity = 2048; «read_only» = false; flush = false; volume = 1; class = 0; label = 0; epoch = 0; regions = 1 }
 
--- its row 0
-unfoldable pub generationAfter : List Call → ℕ
-generationAfter cs = rowAt (tableAfter lastGeneration cs) 0 .generation
+unfoldable pub longTable : State
+longTable = opened longOpening (plansIn 1 figuresPlan) figuresLengths (replicate 6144 0)
+
+-- round n, from 0: a write of one piece, its whole answer and the taking; the write's row is row 0
+unfoldable pub round : ℕ → List Call
+round n = Write (asking 512 512) ∷ answers (queueTag 0 (n % 2 ^ 32)) 512 ∷ Take ∷ []
+
+-- the table after so many rounds
+unfoldable pub rounds : ℕ → State
+rounds zero = longTable
+rounds (suc n) = tableAfter (rounds n) (round n)
 
 -- what the receipt of a completion that is taken says of the flush
 unfoldable pub receiptSynced : Outcome → Option Bool
@@ -185,8 +193,11 @@ pub record Figures : Type 0 where
   -- "*the write poisons"
   pub write-unknown : replyAfter (Write (asking 512 1024) ∷ answers 0 512 ∷ answers 0 100 ∷ []) Take ≡ Took (record { tag = 70; outcome = Unknown rangeThere byWrite; buf = Back 0 1024 })
   pub poisons : replyAfter (Write (asking 512 1024) ∷ answers 0 512 ∷ answers 0 100 ∷ []) (Write (inBuffer 1 (asking 512 512))) ≡ turnedAway (poisonedNow byWrite)
-  -- "*Generation 4,294,967,295 released: 0."
-  pub last-generation : generationAfter (Write (asking 512 512) ∷ answers 18446744069414584320 512 ∷ []) ≡ 0
+  -- "*Generation 4,294,967,295 released: 0." (and ours: the generation after any number of rounds that the lifetime allows)
+  pub opens-long : opens longOpening figuresPlan figuresLengths ≡ true
+  pub generation-after : (n : ℕ) → n ≤ 2 ^ 62 → rowAt (rounds n) 0 .generation ≡ n % 2 ^ 32
+  pub reaches-the-last : rowAt (rounds 4294967295) 0 .generation ≡ 4294967295
+  pub last-generation : rowAt (rounds 4294967296) 0 .generation ≡ 0
   -- "*Flush result 0: not synced." (and ours: another is)
   pub not-synced : synced (replyAfter (SetForced 0 true ∷ Write (durably (asking 512 512)) ∷ answers 0 512 ∷ Flushed 0 (Need 0) ∷ []) Take) ≡ some false
   pub synced-7 : synced (replyAfter (SetForced 0 true ∷ Write (durably (asking 512 512)) ∷ answers 0 512 ∷ Flushed 0 (Need 7) ∷ []) Take) ≡ some true
