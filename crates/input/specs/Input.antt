@@ -84,10 +84,26 @@ unfoldable pub linesFrom : List ℕ → List ℕ → List (List ℕ)
 linesFrom line [] = lastOf line
 linesFrom line (b ∷ bs) = cond (eqb b 10) (line ∷ linesFrom [] bs) (linesFrom (line ++ (b ∷ [])) bs)
 
--- However the reads part the input: a step that makes a line whole has made the first of the lines that are left, and one that does not leaves the same
--- lines. Proved in proofs/Laws.antt (input-laws).
+-- the bytes read last of which none has been passed yet
+unfoldable pub unread : Input → List ℕ → List ℕ
+unread i chunk = drop (i .at) (take (i .got) chunk)
+
+-- the line as far as it has come: one that was whole is left behind
+unfoldable pub ComeTo : Input → List ℕ → List ℕ → Type 0
+ComeTo i line bytes = (i .whole ≡ true → bytes ≡ []) × (i .whole ≡ false → Kept (i .reader) line bytes)
+
+-- the line goes on by what was left, up to its LF: one that this made whole is the first of the lines left, and the others follow; else the lines left are the same
+pub record Stepped (r : Input) (line′ bytes left left′ rest : List ℕ) : Type 0 where
+  pub kept : Kept (r .reader) line′ (bytes ++ upTo left)
+  pub whole : r .whole ≡ true → linesFrom bytes (left ++ rest) ≡ (bytes ++ upTo left) ∷ linesFrom [] (left′ ++ rest)
+  pub part : r .whole ≡ false → linesFrom bytes (left ++ rest) ≡ linesFrom (bytes ++ upTo left) (left′ ++ rest)
+
+-- However the reads part the input, and whatever follows (`rest`): each step makes the first of the lines that are left whole, or leaves the same lines. Proved in
+-- proofs/Laws.antt (input-laws).
 pub record InputLaws : Type 0 where
-  pub cut : (line left rest : List ℕ) → hasEnd left ≡ true → linesFrom line (left ++ rest) ≡ (line ++ upTo left) ∷ linesFrom [] (behind left ++ rest)
-  pub on : (line left rest : List ℕ) → hasEnd left ≡ false → linesFrom line (left ++ rest) ≡ linesFrom (line ++ upTo left) rest
-  -- where a step leaves off, the bytes behind the LF are next
-  pub next : (left : List ℕ) → drop (past left) left ≡ behind left
+  -- a step in the bytes read last
+  pub steps : (i r : Input) (line line′ chunk chunk′ : List ℕ) → Next i r line line′ chunk chunk′ → i .at < i .got
+      → (bytes rest : List ℕ) → ComeTo i line bytes → Stepped r line′ bytes (unread i chunk) (unread r chunk′) rest
+  -- a step that reads passes no byte: what was read is next, and where it is nothing, a line that has come to any byte is the last
+  pub reads : (i r : Input) (line line′ chunk chunk′ : List ℕ) → Next i r line line′ chunk chunk′ → i .got ≤ i .at → (bytes : List ℕ) → ComeTo i line bytes
+      → Kept (r .reader) line′ bytes × ((r .whole ≡ (r .ended && ltb 0 (length bytes))) × ((unread r chunk′ ≡ take (r .got) chunk′) × (linesFrom bytes [] ≡ lastOf bytes)))
