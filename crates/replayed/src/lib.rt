@@ -1,6 +1,8 @@
 // A trace, as far as it was read and answered: what the programs replay and lists share. How a line is answered stands in the crate replaying; here the memory is
 // lent, and the answer printed.
 ghost use mathlib.Core.Path.{_≡_};
+ghost use lib.ListN.{replicate};
+ghost use Rattle.model.specs.State.{freed};
 ghost use Rattle.model.specs.Laws.{fresh};
 ghost use Rattle.replayed.specs.Replayed.{standing, Answers, Turned, overAt};
 use input::Input;
@@ -88,7 +90,7 @@ pub fn moved(r: Running, from: Input) -> Running
 
 // Before the first line of a trace.
 pub fn begun(from: Input) -> Running
-    ensures { λ r. ⌜ (r .stage ≡ Stage.Before) × ((r .counts ≡ fresh) × ((r .flushes ≡ 0) × (r .from ≡ from))) ⌝ }
+    ensures { λ r. ⌜ (r .stage ≡ Stage.Before) × ((r .rows ≡ replicate 64 (freed 0)) × ((r .counts ≡ fresh) × ((r .flushes ≡ 0) × (r .from ≡ from)))) ⌝ }
 {
     Running {
         stage: Stage::Before,
