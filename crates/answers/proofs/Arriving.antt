@@ -28,7 +28,7 @@ use Rattle.step.specs.Step.{rowOf, rowAt, names, bytesAt, planOf, fateOf, under
 use Rattle.step.specs.Sound.{Sound, InTable, rangeEnd}
 use Rattle.optable.specs.Counted.{acceptedIf, releasedBy}
 use Rattle.called.specs.declared.Touched.{Touched}
-use Rattle.called.specs.Called.{lentOf, awayWith, Beyond, CallsTo}
+use Rattle.called.specs.Called.{lentOf, awayWith, Beyond, CallsTo, placeOf}
 use Rattle.liveregion.specs.declared.LiveRegion.{LiveRegion}
 use Rattle.liveregion.specs.Live.{InStore, liveOf, regionOf}
 use Rattle.firstpiece.proofs.Found.{in-store, region-is}
@@ -45,6 +45,14 @@ use Rattle.answers.proofs.Carrying.{plan-is}
 use Rattle.answers.proofs.Calling.{RejectsPiece, calls}
 use Rattle.answers.proofs.Fitting.{under-way-fits}
 use Rattle.answers.proofs.Telling.{answer-rejects, flush-rejects}
+use mir.Val.{Val}
+use denote.Laws.{Is}
+use denote.Enum.Declared as enum
+use Rattle.answers.specs.declared.Arrived.{Arrived}
+use Rattle.answers.specs.declared.Arrived.the-variants.{Answer as Answers, Flushed as Results}
+use Rattle.answers.specs.Arrived.{arrivedCall, BecomesIn}
+use Rattle.answers.proofs.Arrived as whatArrived
+use Rattle.answers.proofs.Raw.{answer-fits, result-fits}
 
 -- a tag that the code does not know names no row of the table
 stranger : (c : Counts) (l : Lent) (t : ℕ) → knownAs (settingsIn (l .store)) (getD (l .rows) (rowOf t) (freed 0)) t ≡ false → names (rowAt (stateIn c l) (rowOf t)) t ≡ false
@@ -197,3 +205,21 @@ module _ (c : Counts) (rows : List Row) (store free ready owners pool : List ℕ
       pub result-arrives : ResultFits result → Calls (flushedCall t result) r store′ free′ ready′ owners′ pool′
       unfolding called InputFits
       result-arrives fits = arrives (flushedCall t result) (flushed result) (λ x. refl) fits (is .0) (λ known. (result-told known, result-kept known))
+
+    -- an answer or a flush result
+    pub arrived : (what : Arrived) (vs : List Val) → Is (enum.row whatArrived.the-type) what vs → BecomesIn what t o g row store f → Calls (arrivedCall t what) r store′ free′ ready′ owners′ pool′
+    unfolding arrivedCall BecomesIn
+    arrived (Answers answer back flushes) vs p is = answer-arrives answer back flushes (answer-fits answer _ (p .1 .1 .1 .1 .0)) is
+    arrived (Results result) vs p is = result-arrives result is (result-fits result _ (p .1 .1 .1 .1 .0))
+
+-- both touch the row that the tag names
+pub place-of : (t : ℕ) (what : Arrived) (c : Counts) (free : List ℕ) → placeOf (arrivedCall t what) c free ≡ rowOf t
+unfolding placeOf arrivedCall
+place-of t (Answers answer back flushes) c free = refl
+place-of t (Results result) c free = refl
+
+pub at-place : (call : Call) (c : Counts) (l : Lent) (rows : List Row) (r : Touched) (k k′ : ℕ) → k ≡ k′ → (store′ free′ ready′ owners′ pool′ : List ℕ)
+    → CallsTo call c l (r .reply) (releasedBy (r .frees) (acceptedIf (r .accepts) c)) (lentOf (set rows k′ (r .row)) store′ free′ ready′ owners′ pool′)
+    → CallsTo call c l (r .reply) (releasedBy (r .frees) (acceptedIf (r .accepts) c)) (lentOf (set rows k (r .row)) store′ free′ ready′ owners′ pool′)
+at-place call c l rows r k k′ e store′ free′ ready′ owners′ pool′ =
+    subst (λ (j : ℕ). CallsTo call c l (r .reply) (releasedBy (r .frees) (acceptedIf (r .accepts) c)) (lentOf (set rows j (r .row)) store′ free′ ready′ owners′ pool′)) (sym e)

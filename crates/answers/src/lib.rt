@@ -1,39 +1,64 @@
 // An answer and a flush result, on a table in what is lent (store-io's submitter/mod.rs: the arms that answer a queue tag). The row that the tag names is given.
-ghost use Rattle.model.specs.declared.Call.the-variants.{Answer as answerCall, Flushed as flushedCall};
+ghost use mathlib.Core.Path.{_≡_};
 ghost use Rattle.called.specs.Called.{ArmTo};
+ghost use Rattle.answers.specs.Arrived.{arrivedCall, BecomesIn};
 use called::Touched;
+use liveregion::LiveRegion;
+use model::Call;
 use model::Counts;
+use model::Opening;
 use model::Row;
 use platform::Answer;
 use platform::Flushed;
+use settle::Finished;
 
-// An answer arrives.
-pub fn answer(
-    qtag: u64,
-    answer: Answer,
-    back: bool,
-    flushes: u64,
-    row: Row,
-    counts: Counts,
-    rows: usize,
-    store: &mut [u64],
-    free: &mut [u64],
-    ready: &mut [u64],
-    owners: &mut [u64],
-    pool: &mut [u8],
-) -> Touched
-    ensures { λ r. ⌜ ArmTo (answerCall qtag answer back flushes) row counts rows (now (store .entry)) (now (free .entry)) (now (ready .entry)) (now (owners .entry)) (now (pool .entry)) r (now (store .exit)) (now (free .exit)) (now (ready .exit)) (now (owners .exit)) (now (pool .exit)) ⌝ }
-{
-    let o = settings::settings(store);
-    let g = liveregion::region_at(store, row.handle);
-    let f = underway::finished(qtag, o, g, row, answer, back, flushes, store);
-    carry::carry(f, qtag, row, o, g, counts, store, free, ready, owners, pool)
+// What arrives under a queue tag: an answer, with whether the buffer came back and the host's flush count, or a flush result.
+pub enum Arrived {
+    Answer {
+        answer: Answer,
+        back: bool,
+        flushes: u64,
+    },
+    Flushed(Flushed),
 }
 
-// A flush result arrives.
-pub fn flushed(
+// The call by which it arrives.
+pub fn call_of(qtag: u64, what: Arrived) -> Call
+    ensures { λ r. ⌜ r ≡ arrivedCall qtag what ⌝ }
+{
+    match what {
+        Arrived::Answer {
+            answer,
+            back,
+            flushes,
+        } => Call::Answer {
+            qtag,
+            answer,
+            back,
+            flushes,
+        },
+        Arrived::Flushed(result) => Call::Flushed { qtag, result },
+    }
+}
+
+// What becomes of the operation in the row.
+fn becomes(what: Arrived, qtag: u64, o: Opening, g: LiveRegion, row: Row, store: &[u64]) -> Finished
+    ensures { λ r. ⌜ BecomesIn what qtag o g row (now (store .entry)) r ⌝ }
+{
+    match what {
+        Arrived::Answer {
+            answer,
+            back,
+            flushes,
+        } => underway::finished(qtag, o, g, row, answer, back, flushes, store),
+        Arrived::Flushed(result) => underway::flush_finished(qtag, o, row, result),
+    }
+}
+
+// An answer or a flush result arrives.
+pub fn arrive(
     qtag: u64,
-    result: Flushed,
+    what: Arrived,
     row: Row,
     counts: Counts,
     rows: usize,
@@ -43,10 +68,10 @@ pub fn flushed(
     owners: &mut [u64],
     pool: &mut [u8],
 ) -> Touched
-    ensures { λ r. ⌜ ArmTo (flushedCall qtag result) row counts rows (now (store .entry)) (now (free .entry)) (now (ready .entry)) (now (owners .entry)) (now (pool .entry)) r (now (store .exit)) (now (free .exit)) (now (ready .exit)) (now (owners .exit)) (now (pool .exit)) ⌝ }
+    ensures { λ r. ⌜ ArmTo (arrivedCall qtag what) row counts rows (now (store .entry)) (now (free .entry)) (now (ready .entry)) (now (owners .entry)) (now (pool .entry)) r (now (store .exit)) (now (free .exit)) (now (ready .exit)) (now (owners .exit)) (now (pool .exit)) ⌝ }
 {
     let o = settings::settings(store);
     let g = liveregion::region_at(store, row.handle);
-    let f = underway::flush_finished(qtag, o, row, result);
+    let f = becomes(what, qtag, o, g, row, store);
     carry::carry(f, qtag, row, o, g, counts, store, free, ready, owners, pool)
 }

@@ -2,6 +2,7 @@
 -- an OS error, marked media or not by the host; refused by the queue; refused with an OS error, marked likewise." What a host asks for in numbers: a call, or, by a
 -- code that names nothing (a gate, a form or an operation that there is not), none.
 use mathlib.Core.Bool.{Bool}
+use mathlib.Core.Option.{Option, none, some}
 use mathlib.Core.List.{List}
 use Prim.Native.Nat.{ℕ}
 use lib.ListN.{getD}
@@ -14,10 +15,17 @@ use Rattle.domain.specs.declared.FirstCause.{FirstCause}
 use Rattle.platform.specs.declared.Answer.the-variants.{Count, Error, Refused, RefusedWith}
 use Rattle.platform.specs.declared.Flushed.the-variants.{Need, Unknown as durabilityUnknown, Poisoned}
 use Rattle.model.specs.declared.Request.{Request}
+use Rattle.model.specs.declared.Call.{Call}
 use Rattle.model.specs.declared.Call.the-variants.{Answer, Flushed, SetGate, ReportPoison}
 use Rattle.model.specs.Memory.{flag, opIn, gateIn}
-use Rattle.asked.specs.declared.Asked.{Asked}
-use Rattle.asked.specs.declared.Asked.the-variants.{Call, Unknown}
+use Rattle.asked.specs.declared.AnswerForm.{AnswerForm}
+use Rattle.asked.specs.declared.AnswerForm.the-variants.{Known as known, Unknown as noAnswer}
+use Rattle.asked.specs.declared.FlushedForm.{FlushedForm}
+use Rattle.asked.specs.declared.FlushedForm.the-variants.{Known as knownResult, Unknown as noResult}
+use Rattle.asked.specs.declared.GateForm.{GateForm}
+use Rattle.asked.specs.declared.GateForm.the-variants.{Known as knownGate, Unknown as noGate}
+use Rattle.asked.specs.declared.CauseForm.{CauseForm}
+use Rattle.asked.specs.declared.CauseForm.the-variants.{Known as knownCause, Unknown as noCause}
 
 -- a request in 9 words, in the order of the sentence
 unfoldable pub requestIn : List ℕ → Request
@@ -33,25 +41,50 @@ unfoldable pub causeOf : ℕ → Bool → ℕ → FirstCause
 causeOf op has raw = record { op = opIn op; raw = errorOf has raw }
 
 -- forms: 0 a count, 1 an error, 2 refused, 3 refused with an error
-unfoldable pub answerAsked : ℕ → ℕ → ℕ → ℕ → Bool → Bool → ℕ → Asked
-answerAsked qtag form count raw media back flushes =
-    pick (eqb form 0) (Call (Answer qtag (Count count) back flushes))
-    (pick (eqb form 1) (Call (Answer qtag (Error raw media) back flushes))
-    (pick (eqb form 2) (Call (Answer qtag Refused back flushes))
-    (pick (eqb form 3) (Call (Answer qtag (RefusedWith raw media) back flushes)) Unknown)))
+unfoldable pub answerForm : ℕ → ℕ → ℕ → Bool → AnswerForm
+answerForm form count raw media =
+    pick (eqb form 0) (known (Count count)) (pick (eqb form 1) (known (Error raw media)) (pick (eqb form 2) (known Refused) (pick (eqb form 3) (known (RefusedWith raw media)) noAnswer)))
+
+unfoldable pub answering : ℕ → Bool → ℕ → AnswerForm → Option Call
+answering qtag back flushes (known answer) = some (Answer qtag answer back flushes)
+answering qtag back flushes noAnswer = none
+
+abbrev pub answerAsked : ℕ → ℕ → ℕ → ℕ → Bool → Bool → ℕ → Option Call
+answerAsked qtag form count raw media back flushes = answering qtag back flushes (answerForm form count raw media)
 
 -- "A flush result is a need or a failure: DurabilityUnknown, with its operation and with or without an OS error, or Poisoned with its cause.": 0 a need, 1 unknown,
 -- 2 poisoned
-unfoldable pub flushedAsked : ℕ → ℕ → ℕ → ℕ → Bool → ℕ → Asked
-flushedAsked qtag form need op has raw =
-    pick (eqb form 0) (Call (Flushed qtag (Need need)))
+unfoldable pub flushedForm : ℕ → ℕ → ℕ → Bool → ℕ → FlushedForm
+flushedForm form need op has raw =
+    pick (eqb form 0) (knownResult (Need need))
     (pick (ltb op 4)
-    (pick (eqb form 1) (Call (Flushed qtag (durabilityUnknown (causeOf op has raw)))) (pick (eqb form 2) (Call (Flushed qtag (Poisoned (causeOf op has raw)))) Unknown)) Unknown)
+    (pick (eqb form 1) (knownResult (durabilityUnknown (causeOf op has raw))) (pick (eqb form 2) (knownResult (Poisoned (causeOf op has raw))) noResult)) noResult)
+
+unfoldable pub flushing : ℕ → FlushedForm → Option Call
+flushing qtag (knownResult result) = some (Flushed qtag result)
+flushing qtag noResult = none
+
+abbrev pub flushedAsked : ℕ → ℕ → ℕ → ℕ → Bool → ℕ → Option Call
+flushedAsked qtag form need op has raw = flushing qtag (flushedForm form need op has raw)
 
 -- "recycled 4 StaleGeneration, released 5 NotReady": gates: 0 open, 1 recycled, 2 released
-unfoldable pub gateAsked : ℕ → ℕ → Asked
-gateAsked handle gate = pick (ltb gate 3) (Call (SetGate handle (gateIn gate))) Unknown
+unfoldable pub gateForm : ℕ → GateForm
+gateForm gate = pick (ltb gate 3) (knownGate (gateIn gate)) noGate
+
+unfoldable pub gating : ℕ → GateForm → Option Call
+gating handle (knownGate gate) = some (SetGate handle gate)
+gating handle noGate = none
+
+abbrev pub gateAsked : ℕ → ℕ → Option Call
+gateAsked handle gate = gating handle (gateForm gate)
 
 -- "report poison with a cause"
-unfoldable pub poisonAsked : ℕ → Bool → ℕ → Asked
-poisonAsked op has raw = pick (ltb op 4) (Call (ReportPoison (causeOf op has raw))) Unknown
+unfoldable pub causeForm : ℕ → Bool → ℕ → CauseForm
+causeForm op has raw = pick (ltb op 4) (knownCause (causeOf op has raw)) noCause
+
+unfoldable pub poisoning : CauseForm → Option Call
+poisoning (knownCause cause) = some (ReportPoison cause)
+poisoning noCause = none
+
+abbrev pub poisonAsked : ℕ → Bool → ℕ → Option Call
+poisonAsked op has raw = poisoning (causeForm op has raw)

@@ -1,8 +1,7 @@
-// What a host asks for in numbers (specs/Asked.antt): a call of the model, or a code that names nothing.
+// What a host asks for in numbers (specs/Asked.antt): what a code names, or that it names nothing.
 ghost use mathlib.Core.Path.{_≡_};
 ghost use Rattle.model.specs.Memory.{settingsIn};
-ghost use Rattle.model.specs.declared.Call.the-variants.{Answer as answerCall, Flushed as flushedCall, SetGate};
-ghost use Rattle.asked.specs.Asked.{requestIn, errorOf, causeOf, answerAsked, flushedAsked, gateAsked, poisonAsked};
+ghost use Rattle.asked.specs.Asked.{requestIn, errorOf, causeOf, answerForm, flushedForm, gateForm, causeForm};
 use domain::FirstCause;
 use domain::OsError;
 use model::Gate;
@@ -12,9 +11,27 @@ use platform::Answer;
 use platform::Flushed;
 use regionmap::Position;
 
-// A call, or a code that names nothing.
-pub enum Asked {
-    Call(model::Call),
+// An answer, or a form that names none.
+pub enum AnswerForm {
+    Known(Answer),
+    Unknown,
+}
+
+// A flush result, or a form that names none.
+pub enum FlushedForm {
+    Known(Flushed),
+    Unknown,
+}
+
+// A gate, or a code that names none.
+pub enum GateForm {
+    Known(Gate),
+    Unknown,
+}
+
+// A cause, or an operation's code that names none.
+pub enum CauseForm {
+    Known(FirstCause),
     Unknown,
 }
 
@@ -77,90 +94,56 @@ fn cause_of(op: u64, has: bool, raw: u32) -> FirstCause
     }
 }
 
-// The call of an answer.
-fn answered(qtag: u64, answer: Answer, back: bool, flushes: u64) -> Asked
-    ensures { λ r. ⌜ r ≡ Asked.Call (answerCall qtag answer back flushes) ⌝ }
-{
-    Asked::Call(model::Call::Answer {
-        qtag,
-        answer,
-        back,
-        flushes,
-    })
-}
-
-// The call of a flush result.
-fn flushed(qtag: u64, result: Flushed) -> Asked
-    ensures { λ r. ⌜ r ≡ Asked.Call (flushedCall qtag result) ⌝ }
-{
-    Asked::Call(model::Call::Flushed { qtag, result })
-}
-
-// The call that sets a gate.
-fn gated(handle: u64, gate: Gate) -> Asked
-    ensures { λ r. ⌜ r ≡ Asked.Call (SetGate handle gate) ⌝ }
-{
-    Asked::Call(model::Call::SetGate { handle, gate })
-}
-
 // An answer, by its form.
-pub fn answer_asked(
-    qtag: u64,
-    form: u64,
-    count: u64,
-    raw: u32,
-    media: bool,
-    back: bool,
-    flushes: u64,
-) -> Asked
-    ensures { λ r. ⌜ r ≡ answerAsked qtag form count raw media back flushes ⌝ }
+pub fn answer_form(form: u64, count: u64, raw: u32, media: bool) -> AnswerForm
+    ensures { λ r. ⌜ r ≡ answerForm form count raw media ⌝ }
 {
     match form {
-        0 => answered(qtag, Answer::Count(count), back, flushes),
-        1 => answered(qtag, Answer::Error { raw, media }, back, flushes),
-        2 => answered(qtag, Answer::Refused, back, flushes),
-        3 => answered(qtag, Answer::RefusedWith { raw, media }, back, flushes),
-        _ => Asked::Unknown,
+        0 => AnswerForm::Known(Answer::Count(count)),
+        1 => AnswerForm::Known(Answer::Error { raw, media }),
+        2 => AnswerForm::Known(Answer::Refused),
+        3 => AnswerForm::Known(Answer::RefusedWith { raw, media }),
+        _ => AnswerForm::Unknown,
     }
 }
 
 // A flush result, by its form.
-pub fn flushed_asked(qtag: u64, form: u64, need: u64, op: u64, has: bool, raw: u32) -> Asked
-    ensures { λ r. ⌜ r ≡ flushedAsked qtag form need op has raw ⌝ }
+pub fn flushed_form(form: u64, need: u64, op: u64, has: bool, raw: u32) -> FlushedForm
+    ensures { λ r. ⌜ r ≡ flushedForm form need op has raw ⌝ }
 {
     if form == 0 {
-        return flushed(qtag, Flushed::Need(need));
+        return FlushedForm::Known(Flushed::Need(need));
     }
     if 4 <= op {
-        return Asked::Unknown;
+        return FlushedForm::Unknown;
     }
     let cause = cause_of(op, has, raw);
     match form {
-        1 => flushed(qtag, Flushed::Unknown(cause)),
-        2 => flushed(qtag, Flushed::Poisoned(cause)),
-        _ => Asked::Unknown,
+        1 => FlushedForm::Known(Flushed::Unknown(cause)),
+        2 => FlushedForm::Known(Flushed::Poisoned(cause)),
+        _ => FlushedForm::Unknown,
     }
 }
 
 // A gate, by its code.
-pub fn gate_asked(handle: u64, gate: u64) -> Asked
-    ensures { λ r. ⌜ r ≡ gateAsked handle gate ⌝ }
+pub fn gate_form(gate: u64) -> GateForm
+    ensures { λ r. ⌜ r ≡ gateForm gate ⌝ }
 {
     match gate {
-        0 => gated(handle, Gate::Open),
-        1 => gated(handle, Gate::Recycled),
-        2 => gated(handle, Gate::Released),
-        _ => Asked::Unknown,
+        0 => GateForm::Known(Gate::Open),
+        1 => GateForm::Known(Gate::Recycled),
+        2 => GateForm::Known(Gate::Released),
+        _ => GateForm::Unknown,
     }
 }
 
-// A report of poison.
-pub fn poison_asked(op: u64, has: bool, raw: u32) -> Asked
-    ensures { λ r. ⌜ r ≡ poisonAsked op has raw ⌝ }
+// A cause, by its operation's code.
+pub fn cause_form(op: u64, has: bool, raw: u32) -> CauseForm
+    ensures { λ r. ⌜ r ≡ causeForm op has raw ⌝ }
 {
     if op < 4 {
-        Asked::Call(model::Call::ReportPoison(cause_of(op, has, raw)))
+        CauseForm::Known(cause_of(op, has, raw))
     } else {
-        Asked::Unknown
+        CauseForm::Unknown
     }
 }

@@ -3,6 +3,7 @@ ghost use mathlib.Core.List.{List};
 ghost use Prim.Native.Nat.{ℕ};
 ghost use Rattle.model.specs.declared.Call.the-variants.{Write as writeCall, ReadPage as readCall};
 ghost use Rattle.called.specs.Called.{ArmTo};
+use answers::Arrived;
 use called::Touched;
 use model::Call;
 use model::Counts;
@@ -10,7 +11,7 @@ use model::Request;
 use model::Row;
 
 // A write is submitted.
-fn write(
+pub fn write(
     q: Request,
     row: Row,
     counts: Counts,
@@ -26,7 +27,7 @@ fn write(
 }
 
 // A read is submitted.
-fn read_page(
+pub fn read_page(
     q: Request,
     row: Row,
     counts: Counts,
@@ -63,11 +64,13 @@ pub fn arm(
             answer,
             back,
             flushes,
-        } => answers::answer(
+        } => answers::arrive(
             qtag,
-            answer,
-            back,
-            flushes,
+            Arrived::Answer {
+                answer,
+                back,
+                flushes,
+            },
             row,
             counts,
             rows,
@@ -77,9 +80,9 @@ pub fn arm(
             owners,
             pool,
         ),
-        Call::Flushed { qtag, result } => answers::flushed(
+        Call::Flushed { qtag, result } => answers::arrive(
             qtag,
-            result,
+            Arrived::Flushed(result),
             row,
             counts,
             rows,

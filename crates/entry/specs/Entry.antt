@@ -2,11 +2,12 @@
 -- lends records (wholerows: OpensWhole, CallsWhole, LooksWhole); `out` gets the reply's words (replywords: replyWords). A code that names nothing changes
 -- nothing, and gets a case of its own.
 use mathlib.Core.Path.{_≡_}
+use mathlib.Core.Option.{Option, none, some}
 use mathlib.Core.List.{List, [], _∷_}
 use Prim.Native.Nat.{ℕ}
 use Rattle.completion.specs.declared.Reply.{Reply}
 use Rattle.completion.specs.declared.Reply.the-variants.{No as turnedAway, Ok}
-use Rattle.model.specs.declared.Call.{Call as HostCall}
+use Rattle.model.specs.declared.Call.{Call}
 use Rattle.model.specs.declared.Counts.{Counts}
 use Rattle.model.specs.declared.Lookup.{Lookup}
 use Rattle.model.specs.declared.Opening.{Opening}
@@ -14,8 +15,6 @@ use Rattle.submitter.specs.declared.Opened.{Opened}
 use Rattle.submitter.specs.declared.Opened.the-variants.{Table, No}
 use Rattle.wholerows.specs.WholeRows.{OpensWhole, CallsWhole, LooksWhole}
 use Rattle.replywords.specs.ReplyWords.{replyWords, unknownWords}
-use Rattle.asked.specs.declared.Asked.{Asked}
-use Rattle.asked.specs.declared.Asked.the-variants.{Call, Unknown}
 
 -- what a host lends
 pub record Parts : Type 0 where
@@ -31,15 +30,15 @@ abbrev pub partsOf : List ℕ → List ℕ → List ℕ → List ℕ → List �
 partsOf counts rows store free ready owners pool = record { counts = counts; rows = rows; store = store; free = free; ready = ready; owners = owners; pool = pool }
 
 -- a call: its reply, what it leaves, and the reply's words
-pub record CallsOut (call : HostCall) (p p′ : Parts) (out : List ℕ) : Type 0 where
+pub record CallsOut (call : Call) (p p′ : Parts) (out : List ℕ) : Type 0 where
   pub reply : Reply
   pub calls : CallsWhole call (p .counts) (p .rows) (p .store) (p .free) (p .ready) (p .owners) (p .pool) reply (p′ .counts) (p′ .rows) (p′ .store) (p′ .free) (p′ .ready) (p′ .owners) (p′ .pool)
   pub out-is : out ≡ replyWords reply
 
 -- what is asked for: a call, or nothing
-unfoldable pub AnswersOut : Asked → Parts → Parts → List ℕ → Type 0
-AnswersOut (Call call) p p′ out = CallsOut call p p′ out
-AnswersOut Unknown p p′ out = (p′ ≡ p) × (out ≡ unknownWords)
+unfoldable pub AnswersOut : Option Call → Parts → Parts → List ℕ → Type 0
+AnswersOut (some call) p p′ out = CallsOut call p p′ out
+AnswersOut none p p′ out = (p′ ≡ p) × (out ≡ unknownWords)
 
 -- a lookup: it changes nothing
 pub record LooksOut (x : Lookup) (p : Parts) (out : List ℕ) : Type 0 where

@@ -2,20 +2,27 @@
 // (replywords). A slice crosses as a pointer and a length. The contracts are the model's calls over rows in words (specs/Entry.antt).
 ghost use mathlib.Core.Path.{_≡_};
 ghost use Rattle.iobuf.specs.Turn.{turned};
-ghost use Rattle.model.specs.declared.Call.the-variants.{Write, ReadPage, Take, SetReadOnly, SetForced};
+ghost use Rattle.model.specs.declared.Call.the-variants.{Write, ReadPage, Take, SetGate, SetReadOnly, SetForced, ReportPoison};
 ghost use Rattle.model.specs.declared.Lookup.the-variants.{WritesLive, Mark};
 ghost use Rattle.model.specs.Memory.{settingsIn};
+ghost use Rattle.answers.specs.Arrived.{arrivedCall};
 ghost use Rattle.asked.specs.Asked.{requestIn, answerAsked, flushedAsked, gateAsked, poisonAsked};
 ghost use Rattle.entry.specs.Entry.{partsOf, CallsOut, AnswersOut, LooksOut, OpensOut};
-use asked::Asked;
+use answers::Arrived;
+use asked::AnswerForm;
+use asked::CauseForm;
+use asked::FlushedForm;
+use asked::GateForm;
 use completion::Reply;
-use model::Call;
+use domain::FirstCause;
+use model::Gate;
 use model::Lookup;
+use model::Request;
 use submitter::Opened;
 
-// A call, and its reply's words.
-fn answer(
-    call: Call,
+// A write's reply.
+fn write(
+    q: Request,
     counts: &mut [u64; 3],
     rows: &mut [u64],
     store: &mut [u64],
@@ -25,15 +32,15 @@ fn answer(
     pool: &mut [u8],
     out: &mut [u64; 17],
 )
-    ensures { λ _. ⌜ CallsOut call (partsOf (now (counts .entry)) (now (rows .entry)) (now (store .entry)) (now (free .entry)) (now (ready .entry)) (now (owners .entry)) (now (pool .entry))) (partsOf (now (counts .exit)) (now (rows .exit)) (now (store .exit)) (now (free .exit)) (now (ready .exit)) (now (owners .exit)) (now (pool .exit))) (now (out .exit)) ⌝ }
+    ensures { λ _. ⌜ CallsOut (Write q) (partsOf (now (counts .entry)) (now (rows .entry)) (now (store .entry)) (now (free .entry)) (now (ready .entry)) (now (owners .entry)) (now (pool .entry))) (partsOf (now (counts .exit)) (now (rows .exit)) (now (store .exit)) (now (free .exit)) (now (ready .exit)) (now (owners .exit)) (now (pool .exit))) (now (out .exit)) ⌝ }
 {
-    let reply = wholerows::call_whole(call, counts, rows, store, free, ready, owners, pool);
+    let reply = eachcall::write(q, counts, rows, store, free, ready, owners, pool);
     replywords::put_reply(reply, out);
 }
 
-// What is asked for: a call, or by a code that names nothing, none.
-fn asked(
-    asked: Asked,
+// A read's.
+fn read_page(
+    q: Request,
     counts: &mut [u64; 3],
     rows: &mut [u64],
     store: &mut [u64],
@@ -43,12 +50,66 @@ fn asked(
     pool: &mut [u8],
     out: &mut [u64; 17],
 )
-    ensures { λ _. ⌜ AnswersOut asked (partsOf (now (counts .entry)) (now (rows .entry)) (now (store .entry)) (now (free .entry)) (now (ready .entry)) (now (owners .entry)) (now (pool .entry))) (partsOf (now (counts .exit)) (now (rows .exit)) (now (store .exit)) (now (free .exit)) (now (ready .exit)) (now (owners .exit)) (now (pool .exit))) (now (out .exit)) ⌝ }
+    ensures { λ _. ⌜ CallsOut (ReadPage q) (partsOf (now (counts .entry)) (now (rows .entry)) (now (store .entry)) (now (free .entry)) (now (ready .entry)) (now (owners .entry)) (now (pool .entry))) (partsOf (now (counts .exit)) (now (rows .exit)) (now (store .exit)) (now (free .exit)) (now (ready .exit)) (now (owners .exit)) (now (pool .exit))) (now (out .exit)) ⌝ }
 {
-    match asked {
-        Asked::Call(call) => answer(call, counts, rows, store, free, ready, owners, pool, out),
-        Asked::Unknown => replywords::put_unknown(out),
-    }
+    let reply = eachcall::read_page(q, counts, rows, store, free, ready, owners, pool);
+    replywords::put_reply(reply, out);
+}
+
+// That of an answer or a flush result.
+fn arrived(
+    qtag: u64,
+    what: Arrived,
+    counts: &mut [u64; 3],
+    rows: &mut [u64],
+    store: &mut [u64],
+    free: &mut [u64],
+    ready: &mut [u64],
+    owners: &mut [u64],
+    pool: &mut [u8],
+    out: &mut [u64; 17],
+)
+    ensures { λ _. ⌜ CallsOut (arrivedCall qtag what) (partsOf (now (counts .entry)) (now (rows .entry)) (now (store .entry)) (now (free .entry)) (now (ready .entry)) (now (owners .entry)) (now (pool .entry))) (partsOf (now (counts .exit)) (now (rows .exit)) (now (store .exit)) (now (free .exit)) (now (ready .exit)) (now (owners .exit)) (now (pool .exit))) (now (out .exit)) ⌝ }
+{
+    let reply = eachcall::arrive(qtag, what, counts, rows, store, free, ready, owners, pool);
+    replywords::put_reply(reply, out);
+}
+
+// That of a gate that is set.
+fn gated(
+    handle: u64,
+    gate: Gate,
+    counts: &mut [u64; 3],
+    rows: &mut [u64],
+    store: &mut [u64],
+    free: &mut [u64],
+    ready: &mut [u64],
+    owners: &mut [u64],
+    pool: &mut [u8],
+    out: &mut [u64; 17],
+)
+    ensures { λ _. ⌜ CallsOut (SetGate handle gate) (partsOf (now (counts .entry)) (now (rows .entry)) (now (store .entry)) (now (free .entry)) (now (ready .entry)) (now (owners .entry)) (now (pool .entry))) (partsOf (now (counts .exit)) (now (rows .exit)) (now (store .exit)) (now (free .exit)) (now (ready .exit)) (now (owners .exit)) (now (pool .exit))) (now (out .exit)) ⌝ }
+{
+    let reply = eachset::set_gate(handle, gate, counts, rows, store, free, ready, owners, pool);
+    replywords::put_reply(reply, out);
+}
+
+// That of a report of poison.
+fn poisoned(
+    cause: FirstCause,
+    counts: &mut [u64; 3],
+    rows: &mut [u64],
+    store: &mut [u64],
+    free: &mut [u64],
+    ready: &mut [u64],
+    owners: &mut [u64],
+    pool: &mut [u8],
+    out: &mut [u64; 17],
+)
+    ensures { λ _. ⌜ CallsOut (ReportPoison cause) (partsOf (now (counts .entry)) (now (rows .entry)) (now (store .entry)) (now (free .entry)) (now (ready .entry)) (now (owners .entry)) (now (pool .entry))) (partsOf (now (counts .exit)) (now (rows .exit)) (now (store .exit)) (now (free .exit)) (now (ready .exit)) (now (owners .exit)) (now (pool .exit))) (now (out .exit)) ⌝ }
+{
+    let reply = eachset::report_poison(cause, counts, rows, store, free, ready, owners, pool);
+    replywords::put_reply(reply, out);
 }
 
 // Opens a table in what is lent (Store::submitter). The opening's 13 numbers are block, depth, lifetime, card, buffers, capacity, read-only, flush policy, volume,
@@ -94,18 +155,8 @@ pub extern "C" fn table_write(
 )
     ensures { λ _. ⌜ CallsOut (Write (requestIn (now (request .entry)))) (partsOf (now (counts .entry)) (now (rows .entry)) (now (store .entry)) (now (free .entry)) (now (ready .entry)) (now (owners .entry)) (now (pool .entry))) (partsOf (now (counts .exit)) (now (rows .exit)) (now (store .exit)) (now (free .exit)) (now (ready .exit)) (now (owners .exit)) (now (pool .exit))) (now (out .exit)) ⌝ }
 {
-    let request = asked::request_of(request);
-    answer(
-        Call::Write(request),
-        counts,
-        rows,
-        store,
-        free,
-        ready,
-        owners,
-        pool,
-        out,
-    )
+    let q = asked::request_of(request);
+    write(q, counts, rows, store, free, ready, owners, pool, out)
 }
 
 // A read (Submitter::read_page), with the same 9 words.
@@ -123,18 +174,8 @@ pub extern "C" fn table_read_page(
 )
     ensures { λ _. ⌜ CallsOut (ReadPage (requestIn (now (request .entry)))) (partsOf (now (counts .entry)) (now (rows .entry)) (now (store .entry)) (now (free .entry)) (now (ready .entry)) (now (owners .entry)) (now (pool .entry))) (partsOf (now (counts .exit)) (now (rows .exit)) (now (store .exit)) (now (free .exit)) (now (ready .exit)) (now (owners .exit)) (now (pool .exit))) (now (out .exit)) ⌝ }
 {
-    let request = asked::request_of(request);
-    answer(
-        Call::ReadPage(request),
-        counts,
-        rows,
-        store,
-        free,
-        ready,
-        owners,
-        pool,
-        out,
-    )
+    let q = asked::request_of(request);
+    read_page(q, counts, rows, store, free, ready, owners, pool, out)
 }
 
 // The card's answer to a piece, by its form: 0 a count, 1 an error, 2 refused, 3 refused with an error (Table::finish and abort).
@@ -158,8 +199,26 @@ pub extern "C" fn table_answer(
 )
     ensures { λ _. ⌜ AnswersOut (answerAsked qtag form count raw media back flushes) (partsOf (now (counts .entry)) (now (rows .entry)) (now (store .entry)) (now (free .entry)) (now (ready .entry)) (now (owners .entry)) (now (pool .entry))) (partsOf (now (counts .exit)) (now (rows .exit)) (now (store .exit)) (now (free .exit)) (now (ready .exit)) (now (owners .exit)) (now (pool .exit))) (now (out .exit)) ⌝ }
 {
-    let what = asked::answer_asked(qtag, form, count, raw, media, back, flushes);
-    asked(what, counts, rows, store, free, ready, owners, pool, out)
+    let named = asked::answer_form(form, count, raw, media);
+    match named {
+        AnswerForm::Known(answer) => arrived(
+            qtag,
+            Arrived::Answer {
+                answer,
+                back,
+                flushes,
+            },
+            counts,
+            rows,
+            store,
+            free,
+            ready,
+            owners,
+            pool,
+            out,
+        ),
+        AnswerForm::Unknown => replywords::put_unknown(out),
+    }
 }
 
 // A flush result, by its form: 0 a need, 1 DurabilityUnknown, 2 Poisoned, each of the two with a cause (Table::flushed).
@@ -182,8 +241,22 @@ pub extern "C" fn table_flushed(
 )
     ensures { λ _. ⌜ AnswersOut (flushedAsked qtag form need op has raw) (partsOf (now (counts .entry)) (now (rows .entry)) (now (store .entry)) (now (free .entry)) (now (ready .entry)) (now (owners .entry)) (now (pool .entry))) (partsOf (now (counts .exit)) (now (rows .exit)) (now (store .exit)) (now (free .exit)) (now (ready .exit)) (now (owners .exit)) (now (pool .exit))) (now (out .exit)) ⌝ }
 {
-    let what = asked::flushed_asked(qtag, form, need, op, has, raw);
-    asked(what, counts, rows, store, free, ready, owners, pool, out)
+    let named = asked::flushed_form(form, need, op, has, raw);
+    match named {
+        FlushedForm::Known(result) => arrived(
+            qtag,
+            Arrived::Flushed(result),
+            counts,
+            rows,
+            store,
+            free,
+            ready,
+            owners,
+            pool,
+            out,
+        ),
+        FlushedForm::Unknown => replywords::put_unknown(out),
+    }
 }
 
 // The oldest completion is taken (Completions::next).
@@ -200,17 +273,8 @@ pub extern "C" fn table_take(
 )
     ensures { λ _. ⌜ CallsOut Take (partsOf (now (counts .entry)) (now (rows .entry)) (now (store .entry)) (now (free .entry)) (now (ready .entry)) (now (owners .entry)) (now (pool .entry))) (partsOf (now (counts .exit)) (now (rows .exit)) (now (store .exit)) (now (free .exit)) (now (ready .exit)) (now (owners .exit)) (now (pool .exit))) (now (out .exit)) ⌝ }
 {
-    answer(
-        Call::Take,
-        counts,
-        rows,
-        store,
-        free,
-        ready,
-        owners,
-        pool,
-        out,
-    )
+    let reply = eachcall::take(counts, rows, store, free, ready, owners, pool);
+    replywords::put_reply(reply, out);
 }
 
 // A region's gate is set: 0 open, 1 recycled, 2 released.
@@ -229,8 +293,22 @@ pub extern "C" fn table_set_gate(
 )
     ensures { λ _. ⌜ AnswersOut (gateAsked handle gate) (partsOf (now (counts .entry)) (now (rows .entry)) (now (store .entry)) (now (free .entry)) (now (ready .entry)) (now (owners .entry)) (now (pool .entry))) (partsOf (now (counts .exit)) (now (rows .exit)) (now (store .exit)) (now (free .exit)) (now (ready .exit)) (now (owners .exit)) (now (pool .exit))) (now (out .exit)) ⌝ }
 {
-    let what = asked::gate_asked(handle, gate);
-    asked(what, counts, rows, store, free, ready, owners, pool, out)
+    let named = asked::gate_form(gate);
+    match named {
+        GateForm::Known(gate) => gated(
+            handle,
+            gate,
+            counts,
+            rows,
+            store,
+            free,
+            ready,
+            owners,
+            pool,
+            out,
+        ),
+        GateForm::Unknown => replywords::put_unknown(out),
+    }
 }
 
 // A region's read-only mark is set.
@@ -249,17 +327,8 @@ pub extern "C" fn table_set_read_only(
 )
     ensures { λ _. ⌜ CallsOut (SetReadOnly handle on) (partsOf (now (counts .entry)) (now (rows .entry)) (now (store .entry)) (now (free .entry)) (now (ready .entry)) (now (owners .entry)) (now (pool .entry))) (partsOf (now (counts .exit)) (now (rows .exit)) (now (store .exit)) (now (free .exit)) (now (ready .exit)) (now (owners .exit)) (now (pool .exit))) (now (out .exit)) ⌝ }
 {
-    answer(
-        Call::SetReadOnly { handle, on },
-        counts,
-        rows,
-        store,
-        free,
-        ready,
-        owners,
-        pool,
-        out,
-    )
+    let reply = eachset::set_read_only(handle, on, counts, rows, store, free, ready, owners, pool);
+    replywords::put_reply(reply, out);
 }
 
 // A region's forced mark is set.
@@ -278,17 +347,8 @@ pub extern "C" fn table_set_forced(
 )
     ensures { λ _. ⌜ CallsOut (SetForced handle on) (partsOf (now (counts .entry)) (now (rows .entry)) (now (store .entry)) (now (free .entry)) (now (ready .entry)) (now (owners .entry)) (now (pool .entry))) (partsOf (now (counts .exit)) (now (rows .exit)) (now (store .exit)) (now (free .exit)) (now (ready .exit)) (now (owners .exit)) (now (pool .exit))) (now (out .exit)) ⌝ }
 {
-    answer(
-        Call::SetForced { handle, on },
-        counts,
-        rows,
-        store,
-        free,
-        ready,
-        owners,
-        pool,
-        out,
-    )
+    let reply = eachset::set_forced(handle, on, counts, rows, store, free, ready, owners, pool);
+    replywords::put_reply(reply, out);
 }
 
 // Poison is reported, with a cause: operation 0 none, 1 read, 2 write, 3 flush (Domain::poison).
@@ -308,8 +368,21 @@ pub extern "C" fn table_report_poison(
 )
     ensures { λ _. ⌜ AnswersOut (poisonAsked op has raw) (partsOf (now (counts .entry)) (now (rows .entry)) (now (store .entry)) (now (free .entry)) (now (ready .entry)) (now (owners .entry)) (now (pool .entry))) (partsOf (now (counts .exit)) (now (rows .exit)) (now (store .exit)) (now (free .exit)) (now (ready .exit)) (now (owners .exit)) (now (pool .exit))) (now (out .exit)) ⌝ }
 {
-    let what = asked::poison_asked(op, has, raw);
-    asked(what, counts, rows, store, free, ready, owners, pool, out)
+    let named = asked::cause_form(op, has, raw);
+    match named {
+        CauseForm::Known(cause) => poisoned(
+            cause,
+            counts,
+            rows,
+            store,
+            free,
+            ready,
+            owners,
+            pool,
+            out,
+        ),
+        CauseForm::Unknown => replywords::put_unknown(out),
+    }
 }
 
 // Whether a write still awaits a piece (Table::writes_live).

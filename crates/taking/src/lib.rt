@@ -32,6 +32,7 @@ pub fn take(
     owners: &mut [u64],
 ) -> Touched
     ensures { λ r. ⌜ TakesTo row counts (now (store .entry)) (now (ready .entry)) (now (owners .entry)) r (now (ready .exit)) (now (owners .exit)) ⌝ }
+    ensures no_row { λ r. ⌜ r .row ≡ row ⌝ }
 {
     if counts.ready == 0 {
         return Touched {

@@ -1,18 +1,21 @@
 -- "A later call with another length of row memory or pool gets 13 first.": row memory in words is whole rows, 16 words each, so that a length that is no multiple
 -- of 16 is another length than any that was opened, and gets 13, at the opening too. With whole rows the promises are wordcalls'.
 use mathlib.Core.Path.{_≡_}
+use mathlib.Core.Bool.{Bool, _&&_}
 use mathlib.Core.List.{List}
 use Prim.Native.Nat.{ℕ, _%_}
 use lib.ListN.{length}
+use lib.Dec.{eqb}
 use Rattle.completion.specs.declared.Refusal.the-variants.{Unfit}
 use Rattle.completion.specs.declared.Reply.{Reply}
 use Rattle.completion.specs.declared.Reply.the-variants.{No as turnedAway}
 use Rattle.model.specs.declared.Call.{Call}
 use Rattle.model.specs.declared.Lookup.{Lookup}
 use Rattle.model.specs.declared.Opening.{Opening}
+use Rattle.model.specs.Memory.{lengthsOf, sameLengths}
 use Rattle.submitter.specs.declared.Opened.{Opened}
 use Rattle.submitter.specs.declared.Opened.the-variants.{No}
-use Rattle.wordcalls.specs.WordCalls.{OpensInWords, CallsInWords, LooksInWords}
+use Rattle.wordcalls.specs.WordCalls.{lentIn, OpensInWords, CallsInWords, LooksInWords}
 
 -- as many words as some rows have, or not
 abbrev pub Whole : List ℕ → Type 0
@@ -32,3 +35,7 @@ pub record CallsWhole (call : Call) (counts rows store free ready owners pool : 
 pub record LooksWhole (x : Lookup) (counts rows store free ready owners pool : List ℕ) (r : Reply) : Type 0 where
   pub whole : Whole rows → LooksInWords x counts rows store free ready owners pool r
   pub cut : Cut rows → r ≡ turnedAway Unfit
+
+-- when a call gets past 13: whole rows, and the opening's lengths
+unfoldable pub fitsIn : List ℕ → List ℕ → List ℕ → List ℕ → List ℕ → List ℕ → Bool
+fitsIn rows store free ready owners pool = eqb (length rows % 16) 0 && sameLengths (lengthsOf (lentIn rows store free ready owners pool)) store

@@ -1,8 +1,9 @@
-// Row memory in words is whole rows, 16 words each: a length that is no multiple of 16 gets 13, and nothing changes; else the calls are wordcalls'.
-ghost use Rattle.wholerows.specs.WholeRows.{OpensWhole, CallsWhole, LooksWhole};
+// Row memory in words is whole rows, 16 words each: a length that is no multiple of 16 gets 13, and nothing changes; else opening and lookup are wordcalls', and the
+// calls eachcall's and eachset's.
+ghost use mathlib.Core.Path.{_≡_};
+ghost use Rattle.wholerows.specs.WholeRows.{OpensWhole, LooksWhole, fitsIn};
 use completion::Refusal;
 use completion::Reply;
-use model::Call;
 use model::Lookup;
 use model::Opening;
 use submitter::Opened;
@@ -26,23 +27,22 @@ pub fn open_whole(
     Opened::No(Refusal::Unfit)
 }
 
-// One call (submitter::call).
-pub fn call_whole(
-    call: Call,
-    counts: &mut [u64; 3],
-    rows: &mut [u64],
-    store: &mut [u64],
-    free: &mut [u64],
-    ready: &mut [u64],
-    owners: &mut [u64],
-    pool: &mut [u8],
-) -> Reply
-    ensures { λ r. ⌜ CallsWhole call (now (counts .entry)) (now (rows .entry)) (now (store .entry)) (now (free .entry)) (now (ready .entry)) (now (owners .entry)) (now (pool .entry)) r (now (counts .exit)) (now (rows .exit)) (now (store .exit)) (now (free .exit)) (now (ready .exit)) (now (owners .exit)) (now (pool .exit)) ⌝ }
+// Whether the rows are whole and all that is lent has the opening's lengths.
+pub fn fits(
+    rows: &[u64],
+    store: &[u64],
+    free: &[u64],
+    ready: &[u64],
+    owners: &[u64],
+    pool: &[u8],
+) -> bool
+    ensures { λ r. ⌜ r ≡ fitsIn (now (rows .entry)) (now (store .entry)) (now (free .entry)) (now (ready .entry)) (now (owners .entry)) (now (pool .entry)) ⌝ }
 {
     if rows.len() % 16 == 0 {
-        return wordcalls::call_words(call, counts, rows, store, free, ready, owners, pool);
+        let f = submitter::fitted(rows.len() / 16, store, free, ready, owners, pool);
+        return f.fits;
     }
-    Reply::No(Refusal::Unfit)
+    false
 }
 
 // One lookup (submitter::lookup): it changes nothing.

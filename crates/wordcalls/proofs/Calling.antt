@@ -1,7 +1,7 @@
 -- From what the parts of `call_words` ensure to what it ensures: `touch` ensures it of any rows among which the row found is the one to touch, and the rows in the
 -- words are such rows. A call that is turned away leaves row and counts, and writes no word; else the row's words are put.
 use mathlib.Core.Path.{_≡_, refl, sym, ap, _∙_, subst}
-use mathlib.Core.Bool.{true, false}
+use mathlib.Core.Bool.{Bool, true, false}
 use mathlib.Core.Logic.{_⊎_, inl, inr}
 use mathlib.Core.List.{List, [], _∷_}
 use Prim.Native.Nat.{ℕ, _+_, _*_, _/_, _≤_, _<_}
@@ -22,10 +22,10 @@ use Rattle.model.specs.Memory.{Lent}
 use Rattle.optable.specs.Counted.{acceptedIf, releasedBy}
 use Rattle.called.specs.declared.Touched.{Touched}
 use Rattle.called.specs.Called.{lentOf, placeOf, CallsTo, TouchesTo}
-use Rattle.rowwords.specs.RowWords.{rowsIn, rowPut}
-use Rattle.rowwords.proofs.Laws.{count, put-long, put-others}
+use Rattle.rowwords.specs.RowWords.{rowsIn}
+use Rattle.rowwords.proofs.Laws.{count}
 use Rattle.step.specs.Lists.{isAway}
-use Rattle.wordcalls.specs.WordCalls.{countsIn, lentIn, CallsInWords}
+use Rattle.wordcalls.specs.WordCalls.{countsIn, lentIn, Put, CallsInWords}
 
 -- a call that is turned away, by its refusal
 pub refusal-of : {A : Type 0} (r : Reply) → isAway r ≡ true → ((f : Refusal) → r ≡ turnedAway f → A) → A
@@ -95,7 +95,7 @@ module _ (call : Call) (counts rows store free ready owners pool : List ℕ) (t 
       (subst (λ (d : Counts). CallsTo call c lent (t .reply) d (after rs)) (sym e-counts)
       (subst (λ (ys : List Row). CallsTo call c lent (t .reply) next (after ys)) (sym e-rows) touched))
 
-  pub turned-back : isAway (t .reply) ≡ true → CallsInWords call counts rows store free ready owners pool (t .reply) counts rows store′ free′ ready′ owners′ pool′
+  turned-back : isAway (t .reply) ≡ true → CallsInWords call counts rows store free ready owners pool (t .reply) counts rows store′ free′ ready′ owners′ pool′
   turned-back e = refusal-of (t .reply) e (λ f is.
       let same = touched .turned-away f is in
       record {
@@ -105,14 +105,24 @@ module _ (call : Call) (counts rows store free ready owners pool : List ℕ) (t 
         long = refl;
       })
 
-  pub carried-out : isAway (t .reply) ≡ false → (counts′ rows′ : List ℕ) → countsIn counts′ ≡ next → rowsIn rows′ ≡ set (rowsIn rows) at (t .row) → rows′ ≡ rowPut at (t .row) rows
+  carried-out : isAway (t .reply) ≡ false → (r : Reply) (counts′ rows′ : List ℕ) → Put t at c counts rows r counts′ rows′
       → CallsInWords call counts rows store free ready owners pool (t .reply) counts′ rows′ store′ free′ ready′ owners′ pool′
-  carried-out e counts′ rows′ e-counts e-rows e-words = record {
-    calls = in-words counts′ (rowsIn rows′) e-counts e-rows;
+  carried-out e r counts′ rows′ p = record {
+    calls = in-words counts′ (rowsIn rows′) (p .counted .counts-are e) (p .row-is e);
     turned-away = λ f is. absurd (not-both (ap isAway is ∙ is-away f) e);
-    others = λ i apart. ap (λ (ws : List ℕ). getD ws i 0) e-words ∙ put-others at (t .row) rows i (subst (λ (k : ℕ). (i < 16 * k) ⊎ (16 * k + 16 ≤ i)) (sym place-is) apart);
-    long = ap length e-words ∙ put-long at (t .row) rows;
+    others = λ i apart. p .others i (subst (λ (k : ℕ). (i < 16 * k) ⊎ (16 * k + 16 ≤ i)) (sym place-is) apart);
+    long = p .long;
   }
     where
       place-is : at ≡ placeOf call (countsIn counts) free
       place-is = at-is ∙ ap (λ (d : Counts). placeOf call d free) c-is
+
+  -- as the row and the counts are put
+  pub put-in-words : (r : Reply) (counts′ rows′ : List ℕ) → Put t at c counts rows r counts′ rows′ → CallsInWords call counts rows store free ready owners pool r counts′ rows′ store′ free′ ready′ owners′ pool′
+  put-in-words r counts′ rows′ p = subst (λ (x : Reply). CallsInWords call counts rows store free ready owners pool x counts′ rows′ store′ free′ ready′ owners′ pool′) (sym (p .counted .reply)) (by-away (isAway (t .reply)) refl)
+    where
+      by-away : (b : Bool) → isAway (t .reply) ≡ b → CallsInWords call counts rows store free ready owners pool (t .reply) counts′ rows′ store′ free′ ready′ owners′ pool′
+      by-away true e =
+          subst (λ (ws : List ℕ). CallsInWords call counts rows store free ready owners pool (t .reply) ws rows′ store′ free′ ready′ owners′ pool′) (sym (p .counted .turned-away e))
+          (subst (λ (ws : List ℕ). CallsInWords call counts rows store free ready owners pool (t .reply) counts ws store′ free′ ready′ owners′ pool′) (sym (p .turned-away e)) (turned-back e))
+      by-away false e = carried-out e r counts′ rows′ p

@@ -5,10 +5,10 @@ ghost use lib.ListN.{take};
 ghost use Rattle.lookup.specs.Looked.{lookedIn};
 ghost use Rattle.rowwords.specs.RowWords.{rowsIn};
 ghost use Rattle.step.specs.Lists.{isAway};
-ghost use Rattle.wordcalls.specs.WordCalls.{countsIn, OpensInWords, CallsInWords, LooksInWords};
+ghost use Rattle.wordcalls.specs.WordCalls.{countsIn, OpensInWords, Counted, Put, LooksInWords};
+use called::Touched;
 use completion::Reply;
 use lookup::Looked;
-use model::Call;
 use model::Counts;
 use model::Lookup;
 use model::Opening;
@@ -42,7 +42,7 @@ pub fn open_words(
 }
 
 // The counts in three words.
-fn counts_of(counts: &[u64; 3]) -> Counts
+pub fn counts_of(counts: &[u64; 3]) -> Counts
     ensures { λ r. ⌜ r ≡ countsIn (now (counts .entry)) ⌝ }
 {
     Counts {
@@ -69,46 +69,39 @@ fn away(reply: Reply) -> bool
     }
 }
 
-// One call (submitter::call): the row that it touches is read, what the call does to it is decided, and it is put back, with the counts, as decided; a call
-// that is turned away writes neither.
-pub fn call_words(
-    call: Call,
-    counts: &mut [u64; 3],
-    rows: &mut [u64],
-    store: &mut [u64],
-    free: &mut [u64],
-    ready: &mut [u64],
-    owners: &mut [u64],
-    pool: &mut [u8],
-) -> Reply
-    ensures { λ r. ⌜ CallsInWords call (now (counts .entry)) (now (rows .entry)) (now (store .entry)) (now (free .entry)) (now (ready .entry)) (now (owners .entry)) (now (pool .entry)) r (now (counts .exit)) (now (rows .exit)) (now (store .exit)) (now (free .exit)) (now (ready .exit)) (now (owners .exit)) (now (pool .exit)) ⌝ }
+// The counts are put into their words, as a call leaves them; one that is turned away writes none.
+pub fn put_counted(t: Touched, c: Counts, counts: &mut [u64; 3]) -> Reply
+    ensures { λ r. ⌜ Counted t c (now (counts .entry)) r (now (counts .exit)) ⌝ }
 {
-    let c = counts_of(counts);
-    let at = called::place(call, c, free) as usize;
-    let row = rowwords::row_at(rows, at);
-    let t = queuecore::touch(
-        call,
-        row,
-        c,
-        rows.len() / 16,
-        store,
-        free,
-        ready,
-        owners,
-        pool,
-    );
     let reply = t.reply;
     if away(reply) {
         return reply;
     }
-    let touched = t.row;
     let frees = t.frees;
-    rowwords::put_row(rows, at, touched);
     put_counts(
         counts,
         optable::released(optable::accepted(c, t.accepts), frees),
     );
     reply
+}
+
+// The row that a call touches and the counts are put into their words, as the call leaves them; one that is turned away writes neither.
+pub fn put_touched(
+    t: Touched,
+    at: usize,
+    c: Counts,
+    counts: &mut [u64; 3],
+    rows: &mut [u64],
+) -> Reply
+    ensures { λ r. ⌜ Put t at c (now (counts .entry)) (now (rows .entry)) r (now (counts .exit)) (now (rows .exit)) ⌝ }
+{
+    let reply = t.reply;
+    if away(reply) {
+        return reply;
+    }
+    let touched = t.row;
+    rowwords::put_row(rows, at, touched);
+    put_counted(t, c, counts)
 }
 
 // Walks through the first rows, as many as the depth, from the last to the first (lookup::look).

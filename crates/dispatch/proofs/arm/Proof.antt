@@ -1,5 +1,6 @@
 -- `dispatch::arm` meets its contract: each arm is what its function ensures.
 use Rattle.dispatch.proofs.Touching.{as-known}
+use Rattle.answers.specs.Arrived.{arrivedCall}
 use borrow.Author.Needs.{needs}
 use Rattle.dispatch.proofs.arm.Statement.{statement}
 use Rattle.dispatch.proofs.arm.Tie as tie
@@ -19,14 +20,14 @@ read-page-requires c κs = search needs
 enum-known-call-3 : tie.Need-enum-known-call-3
 enum-known-call-3 c = search needs
 
-answer-requires : tie.Need-answer-requires
-answer-requires c κs = search needs
+arrive-requires : tie.Need-arrive-requires
+arrive-requires c κs = search needs
 
 enum-known-call-4 : tie.Need-enum-known-call-4
 enum-known-call-4 c = search needs
 
-flushed-requires : tie.Need-flushed-requires
-flushed-requires c κs = search needs
+arrive-requires-2 : tie.Need-arrive-requires-2
+arrive-requires-2 c κs = search needs
 
 enum-told : tie.Need-enum-told
 enum-told c = search needs
@@ -104,9 +105,10 @@ same-length-11 : tie.Need-same-length-11
 same-length-11 c = search needs
 
 returns-3 : tie.Need-returns-3
+unfolding arrivedCall
 returns-3 c =
     let a = c .before .before .before .before .before .before .before .before .before .before .before .before .before .before .before .before .before .before .before .before .before .before .before .before .args in
-    let did = c .before .before .before .before .before .before .before .before .before .before .answer in
+    let did = c .before .before .before .before .before .before .before .before .before .before .arrive in
     as-known (a .call) _ (c .before .before .before .before .before .before .before .before .before .before .before .before .before .before .before .before .before .call3 .given .1) (a .row) (a .counts) (a .rows) (a .store .now) (a .free .now) (a .ready .now) (a .owners .now) (a .pool .now) (did .result) _ _ _ _ _ (did .ensures)
 
 same-length-12 : tie.Need-same-length-12
@@ -125,9 +127,10 @@ same-length-16 : tie.Need-same-length-16
 same-length-16 c = search needs
 
 returns-4 : tie.Need-returns-4
+unfolding arrivedCall
 returns-4 c =
     let a = c .before .before .before .before .before .before .before .before .before .before .before .before .before .before .before .before .before .before .before .before .before .before .before .before .args in
-    let did = c .before .before .before .before .before .before .before .before .before .before .flushed in
+    let did = c .before .before .before .before .before .before .before .before .before .before .arrive2 in
     as-known (a .call) _ (c .before .before .before .before .before .before .before .before .before .before .before .before .before .before .before .before .before .call4 .given .1) (a .row) (a .counts) (a .rows) (a .store .now) (a .free .now) (a .ready .now) (a .owners .now) (a .pool .now) (did .result) _ _ _ _ _ (did .ensures)
 
 same-length-17 : tie.Need-same-length-17
@@ -143,7 +146,7 @@ returns-5 : tie.Need-returns-5
 returns-5 c =
     let a = c .before .before .before .before .before .before .before .before .before .before .before .before .before .before .before .args in
     let did = c .before .before .before .before .take in
-    as-known (a .call) _ (c .before .before .before .before .before .before .before .before .enum-told .given .1) (a .row) (a .counts) (a .rows) (a .store .now) (a .free .now) (a .ready .now) (a .owners .now) (a .pool .now) (did .result) _ _ _ _ _ (did .ensures (a .rows) (a .free .now) (a .pool .now))
+    as-known (a .call) _ (c .before .before .before .before .before .before .before .before .enum-told .given .1) (a .row) (a .counts) (a .rows) (a .store .now) (a .free .now) (a .ready .now) (a .owners .now) (a .pool .now) (did .result) _ _ _ _ _ (did .ensures .0 (a .rows) (a .free .now) (a .pool .now))
 
 same-length-20 : tie.Need-same-length-20
 same-length-20 c = search needs
@@ -190,9 +193,9 @@ arm-spec =
     enum-known-call-2
     read-page-requires
     enum-known-call-3
-    answer-requires
+    arrive-requires
     enum-known-call-4
-    flushed-requires
+    arrive-requires-2
     enum-told
     take-requires
     enum-known-call-5

@@ -6,8 +6,8 @@ use Rattle.entry.proofs.table_read_page.Tie as tie
 request-of-requires : tie.Need-request-of-requires
 request-of-requires c κs = search needs
 
-answer-requires : tie.Need-answer-requires
-answer-requires c κs = search needs
+read-page-requires : tie.Need-read-page-requires
+read-page-requires c κs = search needs
 
 same-length : tie.Need-same-length
 same-length c = search needs
@@ -28,14 +28,14 @@ same-length-6 : tie.Need-same-length-6
 same-length-6 c = search needs
 
 returns : tie.Need-returns
-returns c = rw (← c .before .before .before .before .before .before .before .before .before .before .before .before .before .before .before .before .before .before .before .before .before .request-of .ensures) (c .before .before .before .before .before .before .before .before .before .before .before .before .answer .ensures)
+returns c = rw (← c .before .before .before .before .before .before .before .before .before .before .before .before .before .before .before .before .before .before .before .before .before .request-of .ensures) (c .before .before .before .before .before .before .before .before .before .before .before .before .read-page .ensures)
 
 pub table-read-page-spec : {M : Type 1} → statement M
 table-read-page-spec =
     tie.close
     (tie.spec
     request-of-requires
-    answer-requires
+    read-page-requires
     same-length
     same-length-2
     same-length-3

@@ -6,8 +6,8 @@ use Rattle.entry.proofs.table_write.Tie as tie
 request-of-requires : tie.Need-request-of-requires
 request-of-requires c κs = search needs
 
-answer-requires : tie.Need-answer-requires
-answer-requires c κs = search needs
+write-requires : tie.Need-write-requires
+write-requires c κs = search needs
 
 same-length : tie.Need-same-length
 same-length c = search needs
@@ -28,14 +28,14 @@ same-length-6 : tie.Need-same-length-6
 same-length-6 c = search needs
 
 returns : tie.Need-returns
-returns c = rw (← c .before .before .before .before .before .before .before .before .before .before .before .before .before .before .before .before .before .before .before .before .before .request-of .ensures) (c .before .before .before .before .before .before .before .before .before .before .before .before .answer .ensures)
+returns c = rw (← c .before .before .before .before .before .before .before .before .before .before .before .before .before .before .before .before .before .before .before .before .before .request-of .ensures) (c .before .before .before .before .before .before .before .before .before .before .before .before .write .ensures)
 
 pub table-write-spec : {M : Type 1} → statement M
 table-write-spec =
     tie.close
     (tie.spec
     request-of-requires
-    answer-requires
+    write-requires
     same-length
     same-length-2
     same-length-3

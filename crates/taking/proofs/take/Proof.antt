@@ -1,4 +1,5 @@
 -- `taking::take` meets its contract: what its callees read, took and wrote.
+use mathlib.Core.Path.{refl}
 use Rattle.taking.proofs.Taking.{none-taken, one-taken}
 use borrow.Author.Needs.{needs}
 use Rattle.taking.proofs.take.Statement.{statement}
@@ -7,7 +8,7 @@ use Rattle.taking.proofs.take.Tie as tie
 returns : tie.Need-returns
 returns c =
     let a = c .before .before .before .before .before .args in
-    none-taken (a .row) (a .counts) (a .store .now) (a .ready .now) (a .owners .now) (c .if1 .taken)
+    (none-taken (a .row) (a .counts) (a .store .now) (a .ready .now) (a .owners .now) (c .if1 .taken), refl)
 
 settings-requires : tie.Need-settings-requires
 settings-requires c κs = search needs
@@ -33,9 +34,11 @@ returns-2 c =
     let popped = back .before .before .before .before in
     let oldest = popped .before .before in
     let settings = oldest .before .before in
-    let a = settings .before .before .before .before .before .before .args in
-    one-taken (a .row) (a .counts) (a .store .now) (a .ready .now) (a .owners .now) (settings .before .if1 .left) (settings .settings .result) (settings .settings .ensures)
-    (oldest .oldest .result) (oldest .oldest .ensures) _ _ (popped .pop .ensures) (back .give-back .ensures)
+    let a = settings .before .before .before .before .before .before .args in (
+      one-taken (a .row) (a .counts) (a .store .now) (a .ready .now) (a .owners .now) (settings .before .if1 .left) (settings .settings .result) (settings .settings .ensures)
+          (oldest .oldest .result) (oldest .oldest .ensures) _ _ (popped .pop .ensures) (back .give-back .ensures),
+      refl,
+    )
 
 pub take-spec : {M : Type 1} → statement M
 take-spec =

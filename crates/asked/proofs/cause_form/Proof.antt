@@ -1,0 +1,21 @@
+-- `asked::cause_form` meets its contract, by the operation's code.
+use borrow.Author.Tests.{lt-ltb, le-ltb}
+use Rattle.layout.specs.Pick.{pick}
+use Rattle.asked.specs.Asked.{causeForm}
+use borrow.Author.Needs.{needs}
+use Rattle.asked.proofs.cause_form.Statement.{statement}
+use Rattle.asked.proofs.cause_form.Tie as tie
+
+cause-of-requires : tie.Need-cause-of-requires
+cause-of-requires c κs = search needs
+
+returns : tie.Need-returns
+unfolding causeForm pick
+returns c = rw (c .cause-of .ensures, lt-ltb (c .before .before .args .op) 4 (c .before .if1 .taken))
+
+returns-2 : tie.Need-returns-2
+unfolding causeForm pick
+returns-2 c = rw (le-ltb (c .before .args .op) 4 (c .if1 .left))
+
+pub cause-form-spec : {M : Type 1} → statement M
+cause-form-spec = tie.close (tie.spec cause-of-requires returns returns-2)
