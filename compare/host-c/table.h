@@ -2,7 +2,7 @@
  *
  * The host lends, and keeps lending the same: counts, 3 words; rows, 16 words for each row of the depth; store, 48 + 70 x regions words; free_rows, a word for
  * each row; ready, 1 + 16 x depth words; owners, a word for each buffer; pool, exactly buffers x capacity bytes. No two of these, nor out, may overlap. out gets
- * the reply, 17 words: crates/replywords/specs/ReplyWords.antt lists them. Of a completion's ticket and receipt the words leave out what the opening was given (volume,
+ * the reply, 17 words: crates/abi/specs/ReplyWords.antt lists them. Of a completion's ticket and receipt the words leave out what the opening was given (volume,
  * class, label, epoch) and what follows: untorn and prefix are false, and a receipt is synced unless its need is 0 or 2^64 - 1. A code that names nothing (a fourth
  * gate, a fifth form) is answered before all else, by case 11. */
 #ifndef TABLE_H

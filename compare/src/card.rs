@@ -2,6 +2,7 @@
 //! keeps the piece's buffer, and hands back the answers that the host scripts.
 
 use std::collections::BTreeMap;
+use std::marker::PhantomData;
 use std::path::Path;
 
 use crate::buf::IoBuf;
@@ -128,23 +129,38 @@ impl Wake for Sleeper {
     fn wake(&self) {}
 }
 
-/// The platform.
+/// A platform of which only the queue is used: its files, folders and locks are nothing.
 #[derive(Debug)]
-pub struct Card;
+pub struct QueueOnly<Q>(PhantomData<fn() -> Q>);
+
+impl<Q> QueueOnly<Q> {
+    pub const fn new() -> Self {
+        Self(PhantomData)
+    }
+}
+
+impl<Q> Default for QueueOnly<Q> {
+    fn default() -> Self {
+        Self::new()
+    }
+}
+
+/// The platform of the traces.
+pub type Card = QueueOnly<CardQueue>;
 
 /// Every call of the platform but `queue` belongs to opening and metadata.
 fn left_out<T>() -> RawResult<T> {
     unimplemented!("files and metadata are left out")
 }
 
-impl Platform for Card {
+impl<Q: Queue<File = ()> + Default + 'static> Platform for QueueOnly<Q> {
     type File = ();
     type Dir = ();
     type Lock = ();
-    type Queue = CardQueue;
+    type Queue = Q;
 
-    fn queue(&self, _cfg: QueueConfig) -> RawResult<CardQueue> {
-        Ok(CardQueue::default())
+    fn queue(&self, _cfg: QueueConfig) -> RawResult<Q> {
+        Ok(Q::default())
     }
     fn monotonic_ms(&self) -> u64 {
         0

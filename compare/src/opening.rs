@@ -145,7 +145,7 @@ fn report(open: &Open) -> StoreReport {
         volume: VolumeId::of(open.volume),
         owner_generation: 0,
         read_only: open.read_only,
-        io: Card.io_path(),
+        io: Card::new().io_path(),
         unavailable: Vec::new(),
         format: 2,
         metadata: crate::v2::MetadataReport,
@@ -201,7 +201,7 @@ where
 
 /// The store and its regions' handles, in order.
 pub fn build(opening: &Opening) -> (Store<Card>, Vec<PageRegion<Card>>) {
-    build_on(Card, opening)
+    build_on(Card::new(), opening)
 }
 
 /// The same over another platform, whose files, like the card's, are nothing.

@@ -26,7 +26,7 @@ unsafe extern "C" {
     fn table_turn(bytes: *mut u8, length: usize, n: usize, k: usize);
 }
 
-/// The words of a reply's case (crates/replywords/specs/ReplyWords.antt).
+/// The words of a reply's case (crates/abi/specs/ReplyWords.antt).
 const PIECE: u64 = 1;
 const DONE: u64 = 4;
 const TOOK: u64 = 6;

@@ -2,17 +2,13 @@
 //! answers the oldest in full.
 
 use std::collections::VecDeque;
-use std::path::Path;
 
 use compare::buf::IoBuf;
+use compare::card::{QueueOnly, Sleeper};
 use compare::completion::{SubmitterConfig, WriteMode};
-use compare::evidence::Evidence;
 use compare::id::{Generation, RegionId, VolumeId};
 use compare::opening::{Opening, build_on};
-use compare::platform::{
-    Completion, CompletionBuf, FileMode, FileName, IoOp, Platform, Queue, QueueConfig, RangeState, RawResult, Rejected,
-    ReleaseHow, Wake,
-};
+use compare::platform::{Completion, CompletionBuf, IoOp, Queue, RawResult, Rejected};
 use compare::receipt::RegionPos;
 use compare::region::PageRegion;
 use compare::submitter::Submitter;
@@ -25,7 +21,7 @@ pub struct InOrder {
 
 impl Queue for InOrder {
     type File = ();
-    type Waker = Nobody;
+    type Waker = Sleeper;
 
     fn submit(&mut self, op: IoOp<'_, ()>, tag: u64) -> Result<(), Rejected> {
         let (IoOp::Write { buf, .. } | IoOp::Read { buf, .. }) = op else {
@@ -50,92 +46,13 @@ impl Queue for InOrder {
         self.under_way.len()
     }
 
-    fn waker(&self) -> Nobody {
-        Nobody
+    fn waker(&self) -> Sleeper {
+        Sleeper
     }
-}
-
-/// A waker that wakes nobody: nothing waits.
-#[derive(Debug, Clone, Copy)]
-pub struct Nobody;
-
-impl Wake for Nobody {
-    fn wake(&self) {}
 }
 
 /// The platform.
-#[derive(Debug)]
-pub struct Bench;
-
-/// Every call of the platform but `queue` belongs to opening and metadata.
-fn left_out<T>() -> RawResult<T> {
-    unimplemented!("files and metadata are left out")
-}
-
-impl Platform for Bench {
-    type File = ();
-    type Dir = ();
-    type Lock = ();
-    type Queue = InOrder;
-
-    fn queue(&self, _cfg: QueueConfig) -> RawResult<InOrder> {
-        Ok(InOrder::default())
-    }
-    fn monotonic_ms(&self) -> u64 {
-        0
-    }
-    fn open_dir(&self, _path: &Path, _create: bool) -> RawResult<()> {
-        left_out()
-    }
-    fn create_file(&self, _dir: &(), _name: &FileName) -> RawResult<()> {
-        left_out()
-    }
-    fn open_file(&self, _dir: &(), _name: &FileName, _mode: FileMode) -> RawResult<()> {
-        left_out()
-    }
-    fn rename_replace(&self, _dir: &(), _from: &FileName, _to: &FileName, _file: &()) -> RawResult<()> {
-        left_out()
-    }
-    fn rename_noreplace(&self, _dir: &(), _from: &FileName, _to: &FileName, _file: &()) -> RawResult<()> {
-        left_out()
-    }
-    fn unlink(&self, _dir: &(), _name: &FileName) -> RawResult<()> {
-        left_out()
-    }
-    fn sync_dir(&self, _dir: &()) -> RawResult<()> {
-        left_out()
-    }
-    fn lock_exclusive(&self, _file: &()) -> RawResult<()> {
-        left_out()
-    }
-    fn lock_shared(&self, _file: &()) -> RawResult<()> {
-        left_out()
-    }
-    fn set_len(&self, _file: &(), _len: u64) -> RawResult<()> {
-        left_out()
-    }
-    fn allocate(&self, _file: &(), _len: u64) -> RawResult<()> {
-        left_out()
-    }
-    fn allocate_range(&self, _file: &(), _offset: u64, _len: u64) -> RawResult<()> {
-        left_out()
-    }
-    fn size(&self, _file: &()) -> RawResult<u64> {
-        left_out()
-    }
-    fn release_range(&self, _file: &(), _offset: u64, _len: u64, _how: ReleaseHow) -> RawResult<()> {
-        left_out()
-    }
-    fn range_state(&self, _file: &(), _offset: u64, _len: u64) -> RawResult<RangeState> {
-        left_out()
-    }
-    fn flush_all(&self, _file: &()) -> RawResult<()> {
-        left_out()
-    }
-    fn probe(&self, _dir: &(), _file: &()) -> RawResult<Evidence> {
-        left_out()
-    }
-}
+type Bench = QueueOnly<InOrder>;
 
 /// A table of the Rust, and the buffers that the host holds.
 pub struct RustTable {
@@ -147,7 +64,7 @@ pub struct RustTable {
 
 impl RustTable {
     pub fn open(opening: &Opening) -> Self {
-        let (store, regions) = build_on(Bench, opening);
+        let (store, regions) = build_on(Bench::new(), opening);
         let config = SubmitterConfig::default().with_depth(opening.open.depth as u32);
         let submitter = store.submitter(config).expect("any queue can be made");
         let take = |_| Some(submitter.take_buf(0).expect("the pool's own count"));

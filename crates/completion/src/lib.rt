@@ -1,5 +1,7 @@
 // What is handed back to the host (store-io's completion.rs, with the ticket and the receipt of receipt.rs and the contexts of io.rs):
 // completions, and the reply to each call. specs/Numbers.antt lists document 01's number for each case that has one.
+pub mod refusals;
+
 use domain::FirstCause;
 use domain::Op;
 use domain::OsError;

@@ -3,12 +3,12 @@
 use Prim.Native.Nat.{ℕ, _+_, _%_, _^_}
 use Rattle.domain.specs.declared.FirstCause.{FirstCause}
 use Rattle.domain.specs.declared.Poisoned.{Poisoned}
-use Rattle.domain.specs.declared.Poisoned.the-variants.{Never, First}
+use Rattle.domain.specs.declared.Poisoned.the-variants as Poisoned
 
 -- the store's poison after a cause
 abbrev pub firstKept : Poisoned → FirstCause → Poisoned
-firstKept Never c = First c
-firstKept (First f) c = First f
+firstKept Poisoned.Never c = Poisoned.First c
+firstKept (Poisoned.First f) c = Poisoned.First f
 
 -- the need of a write that ends when the flush count is n
 abbrev pub needAfter : ℕ → ℕ

@@ -1,6 +1,6 @@
--- "contracts give values": what each function that a host in C or Rust calls leaves in what the host lends and in `out`. The promises are those of a host that
--- lends records (wholerows: OpensWhole, CallsWhole, LooksWhole); `out` gets the reply's words (replywords: replyWords). A code that names nothing changes
--- nothing, and gets a case of its own.
+-- "contracts give values": what each function that a host in C or Rust calls leaves in what the host lends and in `out`. The promises are those of a
+-- host that lends records (WholeRows: OpensWhole, CallsWhole, LooksWhole); `out` gets the reply's words (abi's ReplyWords: replyWords). A code that
+-- names nothing changes nothing, and gets a case of its own.
 use mathlib.Core.Path.{_≡_}
 use mathlib.Core.Option.{Option, none, some}
 use mathlib.Core.List.{List, [], _∷_}
@@ -13,8 +13,8 @@ use Rattle.model.specs.declared.Lookup.{Lookup}
 use Rattle.model.specs.declared.Opening.{Opening}
 use Rattle.submitter.specs.declared.Opened.{Opened}
 use Rattle.submitter.specs.declared.Opened.the-variants.{Table, No}
-use Rattle.wholerows.specs.WholeRows.{OpensWhole, CallsWhole, LooksWhole}
-use Rattle.replywords.specs.ReplyWords.{replyWords, unknownWords}
+use Rattle.entry.specs.WholeRows.{OpensWhole, CallsWhole, LooksWhole}
+use Rattle.abi.specs.ReplyWords.{replyWords, unknownWords}
 
 -- what a host lends
 pub record Parts : Type 0 where
@@ -27,12 +27,14 @@ pub record Parts : Type 0 where
   pub pool : List ℕ
 
 abbrev pub partsOf : List ℕ → List ℕ → List ℕ → List ℕ → List ℕ → List ℕ → List ℕ → Parts
-partsOf counts rows store free ready owners pool = record { counts = counts; rows = rows; store = store; free = free; ready = ready; owners = owners; pool = pool }
+partsOf counts rows store free ready owners pool =
+    record { counts = counts; rows = rows; store = store; free = free; ready = ready; owners = owners; pool = pool }
 
 -- a call: its reply, what it leaves, and the reply's words
 pub record CallsOut (call : Call) (p p′ : Parts) (out : List ℕ) : Type 0 where
   pub reply : Reply
-  pub calls : CallsWhole call (p .counts) (p .rows) (p .store) (p .free) (p .ready) (p .owners) (p .pool) reply (p′ .counts) (p′ .rows) (p′ .store) (p′ .free) (p′ .ready) (p′ .owners) (p′ .pool)
+  pub calls : CallsWhole call (p .counts) (p .rows) (p .store) (p .free) (p .ready) (p .owners) (p .pool)
+      reply (p′ .counts) (p′ .rows) (p′ .store) (p′ .free) (p′ .ready) (p′ .owners) (p′ .pool)
   pub out-is : out ≡ replyWords reply
 
 -- what is asked for: a call, or nothing
@@ -57,7 +59,8 @@ openedCounts (No f) counts = counts
 
 pub record OpensOut (o : Opening) (plan : List ℕ) (p p′ : Parts) (out : List ℕ) : Type 0 where
   pub opened : Opened
-  pub opens : OpensWhole o plan (p .rows) (p .store) (p .free) (p .ready) (p .owners) (p .pool) opened (p′ .rows) (p′ .store) (p′ .free) (p′ .ready) (p′ .owners)
+  pub opens : OpensWhole o plan (p .rows) (p .store) (p .free) (p .ready) (p .owners) (p .pool)
+      opened (p′ .rows) (p′ .store) (p′ .free) (p′ .ready) (p′ .owners)
   pub counts-are : p′ .counts ≡ openedCounts opened (p .counts)
   pub pool-is : p′ .pool ≡ p .pool
   pub out-is : out ≡ replyWords (openedReply opened)

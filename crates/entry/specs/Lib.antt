@@ -1,1 +1,3 @@
+pub mod WordCalls
+pub mod WholeRows
 pub mod Entry

@@ -1,18 +1,27 @@
-// What a host in C or Rust calls (store-io's Submitter, one function for each of its calls): numbers and slices of numbers in, the reply into `out`, 17 words
-// (replywords). A slice crosses as a pointer and a length. The contracts are the model's calls over rows in words (specs/Entry.antt).
+// What a host in C or Rust calls (store-io's Submitter, one function for each of its calls): numbers and slices of numbers in, the reply into `out`,
+// 17 words (abi::replies). A slice crosses as a pointer and a length. The contracts are the model's calls over rows in words (specs/Entry.antt).
+// calls: the calls of an operation's way, a submission, an answer or a flush result, a taking.
+// settings: a region's settings and the report of poison.
+// wholerows: that row memory in words is whole rows; opening and lookup.
+// words: counts and rows put into their words, opening and lookup over whole rows.
+pub mod calls;
+pub mod settings;
+pub mod wholerows;
+pub mod words;
+
 ghost use mathlib.Core.Path.{_≡_};
 ghost use Rattle.iobuf.specs.Turn.{turned};
 ghost use Rattle.model.specs.declared.Call.the-variants.{Write, ReadPage, Take, SetGate, SetReadOnly, SetForced, ReportPoison};
 ghost use Rattle.model.specs.declared.Lookup.the-variants.{WritesLive, Mark};
 ghost use Rattle.model.specs.Memory.{settingsIn};
-ghost use Rattle.answers.specs.Arrived.{arrivedCall};
-ghost use Rattle.asked.specs.Asked.{requestIn, answerAsked, flushedAsked, gateAsked, poisonAsked};
+ghost use Rattle.arrival.specs.Arrived.{arrivedCall};
+ghost use Rattle.abi.specs.Asked.{requestIn, answerAsked, flushedAsked, gateAsked, poisonAsked};
 ghost use Rattle.entry.specs.Entry.{partsOf, CallsOut, AnswersOut, LooksOut, OpensOut};
-use answers::Arrived;
-use asked::AnswerForm;
-use asked::CauseForm;
-use asked::FlushedForm;
-use asked::GateForm;
+use abi::codes::AnswerForm;
+use abi::codes::CauseForm;
+use abi::codes::FlushedForm;
+use abi::codes::GateForm;
+use arrival::Arrived;
 use completion::Reply;
 use domain::FirstCause;
 use model::Gate;
@@ -32,10 +41,13 @@ fn write(
     pool: &mut [u8],
     out: &mut [u64; 17],
 )
-    ensures { λ _. ⌜ CallsOut (Write q) (partsOf (now (counts .entry)) (now (rows .entry)) (now (store .entry)) (now (free .entry)) (now (ready .entry)) (now (owners .entry)) (now (pool .entry))) (partsOf (now (counts .exit)) (now (rows .exit)) (now (store .exit)) (now (free .exit)) (now (ready .exit)) (now (owners .exit)) (now (pool .exit))) (now (out .exit)) ⌝ }
+    ensures { λ _. ⌜ CallsOut (Write q) (partsOf (now (counts .entry)) (now (rows .entry)) (now (store .entry))
+        (now (free .entry)) (now (ready .entry)) (now (owners .entry)) (now (pool .entry)))
+        (partsOf (now (counts .exit)) (now (rows .exit)) (now (store .exit))
+        (now (free .exit)) (now (ready .exit)) (now (owners .exit)) (now (pool .exit))) (now (out .exit)) ⌝ }
 {
-    let reply = eachcall::write(q, counts, rows, store, free, ready, owners, pool);
-    replywords::put_reply(reply, out);
+    let reply = crate::calls::write(q, counts, rows, store, free, ready, owners, pool);
+    abi::replies::put_reply(reply, out);
 }
 
 // A read's.
@@ -50,10 +62,13 @@ fn read_page(
     pool: &mut [u8],
     out: &mut [u64; 17],
 )
-    ensures { λ _. ⌜ CallsOut (ReadPage q) (partsOf (now (counts .entry)) (now (rows .entry)) (now (store .entry)) (now (free .entry)) (now (ready .entry)) (now (owners .entry)) (now (pool .entry))) (partsOf (now (counts .exit)) (now (rows .exit)) (now (store .exit)) (now (free .exit)) (now (ready .exit)) (now (owners .exit)) (now (pool .exit))) (now (out .exit)) ⌝ }
+    ensures { λ _. ⌜ CallsOut (ReadPage q) (partsOf (now (counts .entry)) (now (rows .entry)) (now (store .entry))
+        (now (free .entry)) (now (ready .entry)) (now (owners .entry)) (now (pool .entry)))
+        (partsOf (now (counts .exit)) (now (rows .exit)) (now (store .exit))
+        (now (free .exit)) (now (ready .exit)) (now (owners .exit)) (now (pool .exit))) (now (out .exit)) ⌝ }
 {
-    let reply = eachcall::read_page(q, counts, rows, store, free, ready, owners, pool);
-    replywords::put_reply(reply, out);
+    let reply = crate::calls::read_page(q, counts, rows, store, free, ready, owners, pool);
+    abi::replies::put_reply(reply, out);
 }
 
 // That of an answer or a flush result.
@@ -69,10 +84,13 @@ fn arrived(
     pool: &mut [u8],
     out: &mut [u64; 17],
 )
-    ensures { λ _. ⌜ CallsOut (arrivedCall qtag what) (partsOf (now (counts .entry)) (now (rows .entry)) (now (store .entry)) (now (free .entry)) (now (ready .entry)) (now (owners .entry)) (now (pool .entry))) (partsOf (now (counts .exit)) (now (rows .exit)) (now (store .exit)) (now (free .exit)) (now (ready .exit)) (now (owners .exit)) (now (pool .exit))) (now (out .exit)) ⌝ }
+    ensures { λ _. ⌜ CallsOut (arrivedCall qtag what) (partsOf (now (counts .entry)) (now (rows .entry)) (now (store .entry))
+        (now (free .entry)) (now (ready .entry)) (now (owners .entry)) (now (pool .entry)))
+        (partsOf (now (counts .exit)) (now (rows .exit)) (now (store .exit))
+        (now (free .exit)) (now (ready .exit)) (now (owners .exit)) (now (pool .exit))) (now (out .exit)) ⌝ }
 {
-    let reply = eachcall::arrive(qtag, what, counts, rows, store, free, ready, owners, pool);
-    replywords::put_reply(reply, out);
+    let reply = crate::calls::arrive(qtag, what, counts, rows, store, free, ready, owners, pool);
+    abi::replies::put_reply(reply, out);
 }
 
 // That of a gate that is set.
@@ -88,10 +106,23 @@ fn gated(
     pool: &mut [u8],
     out: &mut [u64; 17],
 )
-    ensures { λ _. ⌜ CallsOut (SetGate handle gate) (partsOf (now (counts .entry)) (now (rows .entry)) (now (store .entry)) (now (free .entry)) (now (ready .entry)) (now (owners .entry)) (now (pool .entry))) (partsOf (now (counts .exit)) (now (rows .exit)) (now (store .exit)) (now (free .exit)) (now (ready .exit)) (now (owners .exit)) (now (pool .exit))) (now (out .exit)) ⌝ }
+    ensures { λ _. ⌜ CallsOut (SetGate handle gate) (partsOf (now (counts .entry)) (now (rows .entry)) (now (store .entry))
+        (now (free .entry)) (now (ready .entry)) (now (owners .entry)) (now (pool .entry)))
+        (partsOf (now (counts .exit)) (now (rows .exit)) (now (store .exit))
+        (now (free .exit)) (now (ready .exit)) (now (owners .exit)) (now (pool .exit))) (now (out .exit)) ⌝ }
 {
-    let reply = eachset::set_gate(handle, gate, counts, rows, store, free, ready, owners, pool);
-    replywords::put_reply(reply, out);
+    let reply = crate::settings::set_gate(
+        handle,
+        gate,
+        counts,
+        rows,
+        store,
+        free,
+        ready,
+        owners,
+        pool,
+    );
+    abi::replies::put_reply(reply, out);
 }
 
 // That of a report of poison.
@@ -106,14 +137,26 @@ fn poisoned(
     pool: &mut [u8],
     out: &mut [u64; 17],
 )
-    ensures { λ _. ⌜ CallsOut (ReportPoison cause) (partsOf (now (counts .entry)) (now (rows .entry)) (now (store .entry)) (now (free .entry)) (now (ready .entry)) (now (owners .entry)) (now (pool .entry))) (partsOf (now (counts .exit)) (now (rows .exit)) (now (store .exit)) (now (free .exit)) (now (ready .exit)) (now (owners .exit)) (now (pool .exit))) (now (out .exit)) ⌝ }
+    ensures { λ _. ⌜ CallsOut (ReportPoison cause) (partsOf (now (counts .entry)) (now (rows .entry)) (now (store .entry))
+        (now (free .entry)) (now (ready .entry)) (now (owners .entry)) (now (pool .entry)))
+        (partsOf (now (counts .exit)) (now (rows .exit)) (now (store .exit))
+        (now (free .exit)) (now (ready .exit)) (now (owners .exit)) (now (pool .exit))) (now (out .exit)) ⌝ }
 {
-    let reply = eachset::report_poison(cause, counts, rows, store, free, ready, owners, pool);
-    replywords::put_reply(reply, out);
+    let reply = crate::settings::report_poison(
+        cause,
+        counts,
+        rows,
+        store,
+        free,
+        ready,
+        owners,
+        pool,
+    );
+    abi::replies::put_reply(reply, out);
 }
 
-// Opens a table in what is lent (Store::submitter). The opening's 13 numbers are block, depth, lifetime, card, buffers, capacity, read-only, flush policy, volume,
-// class, label, epoch and regions; the plan has 70 words for each region.
+// Opens a table in what is lent (Store::submitter). The opening's 13 numbers are block, depth, lifetime, card, buffers, capacity, read-only, flush
+// policy, volume, class, label, epoch and regions; the plan has 70 words for each region.
 #[no_mangle]
 pub extern "C" fn table_open(
     opening: &[u64; 13],
@@ -127,16 +170,20 @@ pub extern "C" fn table_open(
     pool: &[u8],
     out: &mut [u64; 17],
 )
-    ensures { λ _. ⌜ OpensOut (settingsIn (now (opening .entry))) (now (plan .entry)) (partsOf (now (counts .entry)) (now (rows .entry)) (now (store .entry)) (now (free .entry)) (now (ready .entry)) (now (owners .entry)) (now (pool .entry))) (partsOf (now (counts .exit)) (now (rows .exit)) (now (store .exit)) (now (free .exit)) (now (ready .exit)) (now (owners .exit)) (now (pool .entry))) (now (out .exit)) ⌝ }
+    ensures { λ _. ⌜ OpensOut (settingsIn (now (opening .entry))) (now (plan .entry))
+        (partsOf (now (counts .entry)) (now (rows .entry)) (now (store .entry))
+        (now (free .entry)) (now (ready .entry)) (now (owners .entry)) (now (pool .entry)))
+        (partsOf (now (counts .exit)) (now (rows .exit)) (now (store .exit))
+        (now (free .exit)) (now (ready .exit)) (now (owners .exit)) (now (pool .entry))) (now (out .exit)) ⌝ }
 {
-    let o = asked::opening_of(opening);
-    let opened = wholerows::open_whole(o, plan, rows, store, free, ready, owners, pool);
+    let o = abi::codes::opening_of(opening);
+    let opened = crate::wholerows::open_whole(o, plan, rows, store, free, ready, owners, pool);
     match opened {
         Opened::Table(c) => {
             *counts = [c.live, c.ready, c.submissions];
-            replywords::put_whole(Reply::Ok, out);
+            abi::replies::put_whole(Reply::Ok, out);
         }
-        Opened::No(f) => replywords::put_whole(Reply::No(f), out),
+        Opened::No(f) => abi::replies::put_whole(Reply::No(f), out),
     }
 }
 
@@ -153,9 +200,12 @@ pub extern "C" fn table_write(
     pool: &mut [u8],
     out: &mut [u64; 17],
 )
-    ensures { λ _. ⌜ CallsOut (Write (requestIn (now (request .entry)))) (partsOf (now (counts .entry)) (now (rows .entry)) (now (store .entry)) (now (free .entry)) (now (ready .entry)) (now (owners .entry)) (now (pool .entry))) (partsOf (now (counts .exit)) (now (rows .exit)) (now (store .exit)) (now (free .exit)) (now (ready .exit)) (now (owners .exit)) (now (pool .exit))) (now (out .exit)) ⌝ }
+    ensures { λ _. ⌜ CallsOut (Write (requestIn (now (request .entry)))) (partsOf (now (counts .entry)) (now (rows .entry)) (now (store .entry))
+        (now (free .entry)) (now (ready .entry)) (now (owners .entry)) (now (pool .entry)))
+        (partsOf (now (counts .exit)) (now (rows .exit)) (now (store .exit))
+        (now (free .exit)) (now (ready .exit)) (now (owners .exit)) (now (pool .exit))) (now (out .exit)) ⌝ }
 {
-    let q = asked::request_of(request);
+    let q = abi::codes::request_of(request);
     write(q, counts, rows, store, free, ready, owners, pool, out)
 }
 
@@ -172,9 +222,12 @@ pub extern "C" fn table_read_page(
     pool: &mut [u8],
     out: &mut [u64; 17],
 )
-    ensures { λ _. ⌜ CallsOut (ReadPage (requestIn (now (request .entry)))) (partsOf (now (counts .entry)) (now (rows .entry)) (now (store .entry)) (now (free .entry)) (now (ready .entry)) (now (owners .entry)) (now (pool .entry))) (partsOf (now (counts .exit)) (now (rows .exit)) (now (store .exit)) (now (free .exit)) (now (ready .exit)) (now (owners .exit)) (now (pool .exit))) (now (out .exit)) ⌝ }
+    ensures { λ _. ⌜ CallsOut (ReadPage (requestIn (now (request .entry)))) (partsOf (now (counts .entry)) (now (rows .entry)) (now (store .entry))
+        (now (free .entry)) (now (ready .entry)) (now (owners .entry)) (now (pool .entry)))
+        (partsOf (now (counts .exit)) (now (rows .exit)) (now (store .exit))
+        (now (free .exit)) (now (ready .exit)) (now (owners .exit)) (now (pool .exit))) (now (out .exit)) ⌝ }
 {
-    let q = asked::request_of(request);
+    let q = abi::codes::request_of(request);
     read_page(q, counts, rows, store, free, ready, owners, pool, out)
 }
 
@@ -197,9 +250,12 @@ pub extern "C" fn table_answer(
     pool: &mut [u8],
     out: &mut [u64; 17],
 )
-    ensures { λ _. ⌜ AnswersOut (answerAsked qtag form count raw media back flushes) (partsOf (now (counts .entry)) (now (rows .entry)) (now (store .entry)) (now (free .entry)) (now (ready .entry)) (now (owners .entry)) (now (pool .entry))) (partsOf (now (counts .exit)) (now (rows .exit)) (now (store .exit)) (now (free .exit)) (now (ready .exit)) (now (owners .exit)) (now (pool .exit))) (now (out .exit)) ⌝ }
+    ensures { λ _. ⌜ AnswersOut (answerAsked qtag form count raw media back flushes) (partsOf (now (counts .entry)) (now (rows .entry))
+        (now (store .entry)) (now (free .entry)) (now (ready .entry)) (now (owners .entry)) (now (pool .entry)))
+        (partsOf (now (counts .exit)) (now (rows .exit)) (now (store .exit))
+        (now (free .exit)) (now (ready .exit)) (now (owners .exit)) (now (pool .exit))) (now (out .exit)) ⌝ }
 {
-    let named = asked::answer_form(form, count, raw, media);
+    let named = abi::codes::answer_form(form, count, raw, media);
     match named {
         AnswerForm::Known(answer) => arrived(
             qtag,
@@ -217,7 +273,7 @@ pub extern "C" fn table_answer(
             pool,
             out,
         ),
-        AnswerForm::Unknown => replywords::put_unknown(out),
+        AnswerForm::Unknown => abi::replies::put_unknown(out),
     }
 }
 
@@ -239,9 +295,12 @@ pub extern "C" fn table_flushed(
     pool: &mut [u8],
     out: &mut [u64; 17],
 )
-    ensures { λ _. ⌜ AnswersOut (flushedAsked qtag form need op has raw) (partsOf (now (counts .entry)) (now (rows .entry)) (now (store .entry)) (now (free .entry)) (now (ready .entry)) (now (owners .entry)) (now (pool .entry))) (partsOf (now (counts .exit)) (now (rows .exit)) (now (store .exit)) (now (free .exit)) (now (ready .exit)) (now (owners .exit)) (now (pool .exit))) (now (out .exit)) ⌝ }
+    ensures { λ _. ⌜ AnswersOut (flushedAsked qtag form need op has raw) (partsOf (now (counts .entry)) (now (rows .entry)) (now (store .entry))
+        (now (free .entry)) (now (ready .entry)) (now (owners .entry)) (now (pool .entry)))
+        (partsOf (now (counts .exit)) (now (rows .exit)) (now (store .exit))
+        (now (free .exit)) (now (ready .exit)) (now (owners .exit)) (now (pool .exit))) (now (out .exit)) ⌝ }
 {
-    let named = asked::flushed_form(form, need, op, has, raw);
+    let named = abi::codes::flushed_form(form, need, op, has, raw);
     match named {
         FlushedForm::Known(result) => arrived(
             qtag,
@@ -255,7 +314,7 @@ pub extern "C" fn table_flushed(
             pool,
             out,
         ),
-        FlushedForm::Unknown => replywords::put_unknown(out),
+        FlushedForm::Unknown => abi::replies::put_unknown(out),
     }
 }
 
@@ -271,10 +330,13 @@ pub extern "C" fn table_take(
     pool: &mut [u8],
     out: &mut [u64; 17],
 )
-    ensures { λ _. ⌜ CallsOut Take (partsOf (now (counts .entry)) (now (rows .entry)) (now (store .entry)) (now (free .entry)) (now (ready .entry)) (now (owners .entry)) (now (pool .entry))) (partsOf (now (counts .exit)) (now (rows .exit)) (now (store .exit)) (now (free .exit)) (now (ready .exit)) (now (owners .exit)) (now (pool .exit))) (now (out .exit)) ⌝ }
+    ensures { λ _. ⌜ CallsOut Take (partsOf (now (counts .entry)) (now (rows .entry)) (now (store .entry))
+        (now (free .entry)) (now (ready .entry)) (now (owners .entry)) (now (pool .entry)))
+        (partsOf (now (counts .exit)) (now (rows .exit)) (now (store .exit))
+        (now (free .exit)) (now (ready .exit)) (now (owners .exit)) (now (pool .exit))) (now (out .exit)) ⌝ }
 {
-    let reply = eachcall::take(counts, rows, store, free, ready, owners, pool);
-    replywords::put_reply(reply, out);
+    let reply = crate::calls::take(counts, rows, store, free, ready, owners, pool);
+    abi::replies::put_reply(reply, out);
 }
 
 // A region's gate is set: 0 open, 1 recycled, 2 released.
@@ -291,9 +353,12 @@ pub extern "C" fn table_set_gate(
     pool: &mut [u8],
     out: &mut [u64; 17],
 )
-    ensures { λ _. ⌜ AnswersOut (gateAsked handle gate) (partsOf (now (counts .entry)) (now (rows .entry)) (now (store .entry)) (now (free .entry)) (now (ready .entry)) (now (owners .entry)) (now (pool .entry))) (partsOf (now (counts .exit)) (now (rows .exit)) (now (store .exit)) (now (free .exit)) (now (ready .exit)) (now (owners .exit)) (now (pool .exit))) (now (out .exit)) ⌝ }
+    ensures { λ _. ⌜ AnswersOut (gateAsked handle gate) (partsOf (now (counts .entry)) (now (rows .entry)) (now (store .entry))
+        (now (free .entry)) (now (ready .entry)) (now (owners .entry)) (now (pool .entry)))
+        (partsOf (now (counts .exit)) (now (rows .exit)) (now (store .exit))
+        (now (free .exit)) (now (ready .exit)) (now (owners .exit)) (now (pool .exit))) (now (out .exit)) ⌝ }
 {
-    let named = asked::gate_form(gate);
+    let named = abi::codes::gate_form(gate);
     match named {
         GateForm::Known(gate) => gated(
             handle,
@@ -307,7 +372,7 @@ pub extern "C" fn table_set_gate(
             pool,
             out,
         ),
-        GateForm::Unknown => replywords::put_unknown(out),
+        GateForm::Unknown => abi::replies::put_unknown(out),
     }
 }
 
@@ -325,10 +390,23 @@ pub extern "C" fn table_set_read_only(
     pool: &mut [u8],
     out: &mut [u64; 17],
 )
-    ensures { λ _. ⌜ CallsOut (SetReadOnly handle on) (partsOf (now (counts .entry)) (now (rows .entry)) (now (store .entry)) (now (free .entry)) (now (ready .entry)) (now (owners .entry)) (now (pool .entry))) (partsOf (now (counts .exit)) (now (rows .exit)) (now (store .exit)) (now (free .exit)) (now (ready .exit)) (now (owners .exit)) (now (pool .exit))) (now (out .exit)) ⌝ }
+    ensures { λ _. ⌜ CallsOut (SetReadOnly handle on) (partsOf (now (counts .entry)) (now (rows .entry)) (now (store .entry))
+        (now (free .entry)) (now (ready .entry)) (now (owners .entry)) (now (pool .entry)))
+        (partsOf (now (counts .exit)) (now (rows .exit)) (now (store .exit))
+        (now (free .exit)) (now (ready .exit)) (now (owners .exit)) (now (pool .exit))) (now (out .exit)) ⌝ }
 {
-    let reply = eachset::set_read_only(handle, on, counts, rows, store, free, ready, owners, pool);
-    replywords::put_reply(reply, out);
+    let reply = crate::settings::set_read_only(
+        handle,
+        on,
+        counts,
+        rows,
+        store,
+        free,
+        ready,
+        owners,
+        pool,
+    );
+    abi::replies::put_reply(reply, out);
 }
 
 // A region's forced mark is set.
@@ -345,10 +423,23 @@ pub extern "C" fn table_set_forced(
     pool: &mut [u8],
     out: &mut [u64; 17],
 )
-    ensures { λ _. ⌜ CallsOut (SetForced handle on) (partsOf (now (counts .entry)) (now (rows .entry)) (now (store .entry)) (now (free .entry)) (now (ready .entry)) (now (owners .entry)) (now (pool .entry))) (partsOf (now (counts .exit)) (now (rows .exit)) (now (store .exit)) (now (free .exit)) (now (ready .exit)) (now (owners .exit)) (now (pool .exit))) (now (out .exit)) ⌝ }
+    ensures { λ _. ⌜ CallsOut (SetForced handle on) (partsOf (now (counts .entry)) (now (rows .entry)) (now (store .entry))
+        (now (free .entry)) (now (ready .entry)) (now (owners .entry)) (now (pool .entry)))
+        (partsOf (now (counts .exit)) (now (rows .exit)) (now (store .exit))
+        (now (free .exit)) (now (ready .exit)) (now (owners .exit)) (now (pool .exit))) (now (out .exit)) ⌝ }
 {
-    let reply = eachset::set_forced(handle, on, counts, rows, store, free, ready, owners, pool);
-    replywords::put_reply(reply, out);
+    let reply = crate::settings::set_forced(
+        handle,
+        on,
+        counts,
+        rows,
+        store,
+        free,
+        ready,
+        owners,
+        pool,
+    );
+    abi::replies::put_reply(reply, out);
 }
 
 // Poison is reported, with a cause: operation 0 none, 1 read, 2 write, 3 flush (Domain::poison).
@@ -366,9 +457,12 @@ pub extern "C" fn table_report_poison(
     pool: &mut [u8],
     out: &mut [u64; 17],
 )
-    ensures { λ _. ⌜ AnswersOut (poisonAsked op has raw) (partsOf (now (counts .entry)) (now (rows .entry)) (now (store .entry)) (now (free .entry)) (now (ready .entry)) (now (owners .entry)) (now (pool .entry))) (partsOf (now (counts .exit)) (now (rows .exit)) (now (store .exit)) (now (free .exit)) (now (ready .exit)) (now (owners .exit)) (now (pool .exit))) (now (out .exit)) ⌝ }
+    ensures { λ _. ⌜ AnswersOut (poisonAsked op has raw) (partsOf (now (counts .entry)) (now (rows .entry)) (now (store .entry))
+        (now (free .entry)) (now (ready .entry)) (now (owners .entry)) (now (pool .entry)))
+        (partsOf (now (counts .exit)) (now (rows .exit)) (now (store .exit))
+        (now (free .exit)) (now (ready .exit)) (now (owners .exit)) (now (pool .exit))) (now (out .exit)) ⌝ }
 {
-    let named = asked::cause_form(op, has, raw);
+    let named = abi::codes::cause_form(op, has, raw);
     match named {
         CauseForm::Known(cause) => poisoned(
             cause,
@@ -381,7 +475,7 @@ pub extern "C" fn table_report_poison(
             pool,
             out,
         ),
-        CauseForm::Unknown => replywords::put_unknown(out),
+        CauseForm::Unknown => abi::replies::put_unknown(out),
     }
 }
 
@@ -397,9 +491,10 @@ pub extern "C" fn table_writes_live(
     pool: &[u8],
     out: &mut [u64; 17],
 )
-    ensures { λ _. ⌜ LooksOut WritesLive (partsOf (now (counts .entry)) (now (rows .entry)) (now (store .entry)) (now (free .entry)) (now (ready .entry)) (now (owners .entry)) (now (pool .entry))) (now (out .exit)) ⌝ }
+    ensures { λ _. ⌜ LooksOut WritesLive (partsOf (now (counts .entry)) (now (rows .entry)) (now (store .entry))
+        (now (free .entry)) (now (ready .entry)) (now (owners .entry)) (now (pool .entry))) (now (out .exit)) ⌝ }
 {
-    let reply = wholerows::lookup_whole(
+    let reply = crate::wholerows::lookup_whole(
         Lookup::WritesLive,
         counts,
         rows,
@@ -409,7 +504,7 @@ pub extern "C" fn table_writes_live(
         owners,
         pool,
     );
-    replywords::put_whole(reply, out);
+    abi::replies::put_whole(reply, out);
 }
 
 // The mark (frontier.rs).
@@ -424,9 +519,10 @@ pub extern "C" fn table_mark(
     pool: &[u8],
     out: &mut [u64; 17],
 )
-    ensures { λ _. ⌜ LooksOut Mark (partsOf (now (counts .entry)) (now (rows .entry)) (now (store .entry)) (now (free .entry)) (now (ready .entry)) (now (owners .entry)) (now (pool .entry))) (now (out .exit)) ⌝ }
+    ensures { λ _. ⌜ LooksOut Mark (partsOf (now (counts .entry)) (now (rows .entry)) (now (store .entry))
+        (now (free .entry)) (now (ready .entry)) (now (owners .entry)) (now (pool .entry))) (now (out .exit)) ⌝ }
 {
-    let reply = wholerows::lookup_whole(
+    let reply = crate::wholerows::lookup_whole(
         Lookup::Mark,
         counts,
         rows,
@@ -436,10 +532,11 @@ pub extern "C" fn table_mark(
         owners,
         pool,
     );
-    replywords::put_whole(reply, out);
+    abi::replies::put_whole(reply, out);
 }
 
-// Turns the first n bytes left by k, as a call turns a buffer between two pieces (the slices' rotate_left): for a host that arranges bytes itself, and to time it.
+// Turns the first n bytes left by k, as a call turns a buffer between two pieces (the slices' rotate_left): for a host that arranges bytes itself,
+// and to time it.
 #[no_mangle]
 pub extern "C" fn table_turn(bytes: &mut [u8], n: usize, k: usize)
     ensures { λ _. ⌜ now (bytes .exit) ≡ turned n k (now (bytes .entry)) ⌝ }

@@ -1,4 +1,9 @@
 // The fields of a line of a trace: they stand between single spaces, and numbers are decimal digits.
+// reader: a line's bytes as they arrive, of which the first 4,096 are kept.
+// words: fields as words, as numbers and as flags.
+pub mod reader;
+pub mod words;
+
 ghost use mathlib.Core.Path.{_≡_};
 ghost use Prim.Native.Nat.{_+_, _≤_};
 ghost use lib.ListN.{length, getD, drop};

@@ -9,8 +9,8 @@ use lib.ListN.{length, take, drop, getD, length-append, drop-of-length-le}
 use lib.Seq.{drop-cons}
 use lib.Dec.{ltb, eqb}
 use borrow.Author.Tests.{lt-ltb, le-ltb, eq-eqb, ne-eqb}
-use Rattle.trace.specs.declared.Reader.{Reader}
-use Rattle.trace.specs.Trace.{Kept}
+use Rattle.fields.specs.declared.reader.Reader.{Reader}
+use Rattle.fields.specs.Trace.{Kept}
 use Rattle.input.specs.declared.Input.{Input}
 use Rattle.input.specs.Input.{upTo, hasEnd, past, Scanned, Fresh}
 

@@ -8,8 +8,8 @@ use lib.ListN.{length, take, drop}
 use lib.Seq.{drop-drop}
 use lib.Dec.{ltb, eqb}
 use Rattle.layout.proofs.Tests.{not-both}
-use Rattle.trace.specs.declared.Reader.{Reader}
-use Rattle.trace.specs.Trace.{Kept}
+use Rattle.fields.specs.declared.reader.Reader.{Reader}
+use Rattle.fields.specs.Trace.{Kept}
 use Rattle.input.specs.declared.Input.{Input}
 use Rattle.input.specs.Input.{upTo, hasEnd, behind, past, Scanned, Next, lastOf, linesFrom, unread, ComeTo, Stepped, InputLaws}
 

@@ -4,7 +4,7 @@ use mathlib.Core.Bool.{true, false}
 use mathlib.Core.List.{List}
 use Prim.Native.Nat.{ℕ}
 use Rattle.layout.proofs.Tests.{not-both}
-use Rattle.trace.specs.Trace.{Kept}
+use Rattle.fields.specs.Trace.{Kept}
 use Rattle.input.specs.declared.Input.{Input}
 use Rattle.input.specs.Input.{Next, Turned}
 

@@ -1,11 +1,12 @@
--- The input, cut into lines: "lines end in LF, the last one's end may be missing"; a line's "number in the file, from 1". What `read` gives is promised by no one.
+-- The input, cut into lines: "lines end in LF, the last one's end may be missing"; a line's "number in the file, from 1". What `read` gives is
+-- promised by no one.
 use mathlib.Core.Path.{_≡_}
 use mathlib.Core.Bool.{Bool, true, false, cond, _&&_}
 use mathlib.Core.List.{List, [], _∷_, _++_}
 use Prim.Native.Nat.{ℕ, _+_, _≤_, _<_, _%_, _^_}
 use lib.ListN.{length, take, drop}
 use lib.Dec.{ltb, eqb}
-use Rattle.trace.specs.Trace.{Kept}
+use Rattle.fields.specs.Trace.{Kept}
 use Rattle.input.specs.declared.Input.{Input}
 
 -- of some bytes, those before the first LF; all, where there is none
@@ -44,8 +45,8 @@ pub record Fresh (i r : Input) : Type 0 where
   pub at : r .at ≡ i .at
   pub got : r .got ≡ i .got
 
--- more was read, of which nothing is promised; where it is nothing the input has ended, and what there is of a line is the last one: "the last one's end
--- may be missing"
+-- more was read, of which nothing is promised; where it is nothing the input has ended, and what there is of a line is the last one: "the last one's
+-- end may be missing"
 pub record Read (i r : Input) (line line′ chunk′ : List ℕ) : Type 0 where
   pub kept : (bytes : List ℕ) → Kept (i .reader) line bytes → Kept (r .reader) line′ bytes × (r .whole ≡ (r .ended && ltb 0 (length bytes)))
   pub ended : r .ended ≡ eqb (r .got) 0
@@ -68,7 +69,8 @@ pub record Begun (r : Input) : Type 0 where
   pub none : r .got ≤ r .at
   pub ended : r .ended ≡ false
 
--- a turn of a program that answers lines: a step in the input, and the line answered if that made it whole. `leaves` is what a line of given bytes and number leaves.
+-- a turn of a program that answers lines: a step in the input, and the line answered if that made it whole. `leaves` is what a line of given bytes
+-- and number leaves.
 pub record Turned {S : Type 0} (leaves : List ℕ → ℕ → S → S → Type 0) (i r : Input) (line line′ chunk chunk′ : List ℕ) (s s′ : S) : Type 0 where
   pub next : Next i r line line′ chunk chunk′
   pub whole : r .whole ≡ true → (bytes : List ℕ) → Kept (r .reader) line′ bytes → leaves bytes (r .number) s s′
@@ -92,18 +94,21 @@ unread i chunk = drop (i .at) (take (i .got) chunk)
 unfoldable pub ComeTo : Input → List ℕ → List ℕ → Type 0
 ComeTo i line bytes = (i .whole ≡ true → bytes ≡ []) × (i .whole ≡ false → Kept (i .reader) line bytes)
 
--- the line goes on by what was left, up to its LF: one that this made whole is the first of the lines left, and the others follow; else the lines left are the same
+-- the line goes on by what was left, up to its LF: one that this made whole is the first of the lines left, and the others follow; else the lines
+-- left are the same
 pub record Stepped (r : Input) (line′ bytes left left′ rest : List ℕ) : Type 0 where
   pub kept : Kept (r .reader) line′ (bytes ++ upTo left)
   pub whole : r .whole ≡ true → linesFrom bytes (left ++ rest) ≡ (bytes ++ upTo left) ∷ linesFrom [] (left′ ++ rest)
   pub part : r .whole ≡ false → linesFrom bytes (left ++ rest) ≡ linesFrom (bytes ++ upTo left) (left′ ++ rest)
 
--- However the reads part the input, and whatever follows (`rest`): each step makes the first of the lines that are left whole, or leaves the same lines. Proved in
--- proofs/Laws.antt (input-laws).
+-- However the reads part the input, and whatever follows (`rest`): each step makes the first of the lines that are left whole, or leaves the same
+-- lines. Proved in proofs/Laws.antt (input-laws).
 pub record InputLaws : Type 0 where
   -- a step in the bytes read last
   pub steps : (i r : Input) (line line′ chunk chunk′ : List ℕ) → Next i r line line′ chunk chunk′ → i .at < i .got
       → (bytes rest : List ℕ) → ComeTo i line bytes → Stepped r line′ bytes (unread i chunk) (unread r chunk′) rest
   -- a step that reads passes no byte: what was read is next, and where it is nothing, a line that has come to any byte is the last
-  pub reads : (i r : Input) (line line′ chunk chunk′ : List ℕ) → Next i r line line′ chunk chunk′ → i .got ≤ i .at → (bytes : List ℕ) → ComeTo i line bytes
-      → Kept (r .reader) line′ bytes × ((r .whole ≡ (r .ended && ltb 0 (length bytes))) × ((unread r chunk′ ≡ take (r .got) chunk′) × (linesFrom bytes [] ≡ lastOf bytes)))
+  pub reads : (i r : Input) (line line′ chunk chunk′ : List ℕ) → Next i r line line′ chunk chunk′ → i .got ≤ i .at
+      → (bytes : List ℕ) → ComeTo i line bytes
+      → Kept (r .reader) line′ bytes ×
+      ((r .whole ≡ (r .ended && ltb 0 (length bytes))) × ((unread r chunk′ ≡ take (r .got) chunk′) × (linesFrom bytes [] ≡ lastOf bytes)))

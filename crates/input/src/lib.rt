@@ -6,7 +6,7 @@ ghost use Prim.Native.Nat.{ℕ, _≤_};
 ghost use lib.Dec.{ltb, eqb};
 ghost use lib.ListN.{length, take, drop};
 ghost use Rattle.input.specs.Input.{Scanned, Fresh, Read, Next, Begun};
-use trace::Reader;
+use fields::reader::Reader;
 
 // Where the input stands: the line as far as it was read, its number, whether it is complete, what is left of the bytes read last, and whether the
 // input has ended.
@@ -24,7 +24,7 @@ pub fn begin() -> Input
     ensures { λ r. ⌜ Begun r ⌝ }
 {
     Input {
-        reader: trace::start(),
+        reader: fields::reader::start(),
         number: 1,
         whole: false,
         at: 0,
@@ -41,7 +41,7 @@ fn fresh(i: Input) -> Input
         return i;
     }
     Input {
-        reader: trace::start(),
+        reader: fields::reader::start(),
         number: std::num::wrapping_add_u64(i.number, 1),
         whole: false,
         at: i.at,
@@ -88,7 +88,8 @@ fn front(n: usize, b: &[u8]) -> usize
 
 // The line as read so far, and where the bytes left begin.
 fn read_to(i: Input, reader: Reader, whole: bool, at: usize) -> Input
-    ensures { λ r. ⌜ (r .reader ≡ reader) × ((r .whole ≡ whole) × ((r .at ≡ at) × ((r .number ≡ i .number) × ((r .got ≡ i .got) × (r .ended ≡ false))))) ⌝ }
+    ensures { λ r. ⌜ (r .reader ≡ reader) ×
+        ((r .whole ≡ whole) × ((r .at ≡ at) × ((r .number ≡ i .number) × ((r .got ≡ i .got) × (r .ended ≡ false))))) ⌝ }
 {
     Input {
         reader,
@@ -110,7 +111,7 @@ fn scan(i: Input, line: &mut [u8; 4096], chunk: &[u8]) -> Input
         if chunk[at] == 10 {
             return read_to(i, reader, true, at + 1);
         }
-        reader = trace::feed(reader, line, chunk[at]);
+        reader = fields::reader::feed(reader, line, chunk[at]);
         at += 1;
     }
     read_to(i, reader, false, at)

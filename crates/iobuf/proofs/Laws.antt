@@ -9,13 +9,14 @@ use native.Mathlib.Nat.{suc-mul, mul-le-mul-right, lt-of-not-le}
 use native.Mathlib.Decide.{decLe, decLt}
 use native.Mathlib.Omega.{arith}
 use lib.ListN.{length, getD, take, drop, length-append, length-take, length-drop, take-append-drop, drop-of-length-le, List·getD-append}
-use lib.Seq.{length-take-le, take-all, take-append-seam, drop-append-seam, take-append-le, drop-append-le, getD-append-add, getD-take, getD-drop, take-take, drop-drop, take-add, take-at, drop-at}
+use lib.Seq.{length-take-le, take-all, take-append-le, drop-append-le, getD-append-add, getD-take, getD-drop, take-take, drop-drop, take-add, take-at, drop-at}
 use borrow.Author.Tests.{le-leb, lt-leb}
 use Rattle.layout.specs.Pick.{pick}
+use Rattle.layout.proofs.Cuts.{take-cut, drop-cut}
 use Rattle.iobuf.specs.Turn.{turned, stretch, withStretch, turnedIn}
 use Rattle.iobuf.specs.TurnLaws.{TurnLaws, Fits, turns, sumOf}
-use Rattle.moving.proofs.Parts.{window}
-use Rattle.shift.proofs.Parts.{rot}
+use Rattle.iobuf.proofs.Parts.{window}
+use Rattle.iobuf.proofs.ShiftParts.{rot}
 
 -- ---- turns
 
@@ -24,19 +25,10 @@ turned-is : (n k : ℕ) (l : List ℕ) → turned n k l ≡ rot k (take n l) ++ 
 unfolding turned
 turned-is n k l = sym (append-assoc (drop k (take n l)) (take k (take n l)) (drop n l))
 
--- where n is above the length it counts as the length
-take-cut : (n : ℕ) (l : List ℕ) → take (min n (length l)) l ≡ take n l
-take-cut n l =
-    ap (λ (e : ℕ). take e l) (sym (length-take n l)) ∙ ap (take (length (take n l))) (sym (take-append-drop n l)) ∙ take-append-seam (take n l) (drop n l)
-
-drop-cut : (n : ℕ) (l : List ℕ) → drop (min n (length l)) l ≡ drop n l
-drop-cut n l =
-    ap (λ (e : ℕ). drop e l) (sym (length-take n l)) ∙ ap (drop (length (take n l))) (sym (take-append-drop n l)) ∙ drop-append-seam (take n l) (drop n l)
-
 pub turned-part : (n k e : ℕ) (l p : List ℕ) → e ≡ min n (length l) → p ≡ rot k (take e l) → p ++ drop e l ≡ turned n k l
 turned-part n k e l p c q =
     (λ i. q i ++ drop e l)
-    ∙ (λ i. rot k ((ap (λ (m : ℕ). take m l) c ∙ take-cut n l) i) ++ (ap (λ (m : ℕ). drop m l) c ∙ drop-cut n l) i)
+    ∙ (λ i. rot k (take-cut n e l c i) ++ drop-cut n e l c i)
     ∙ sym (turned-is n k l)
 
 -- a turn by nothing, and one by all of the bytes or more, changes nothing
@@ -80,7 +72,7 @@ at-past n k i l h =
     let e : ℕ = min n (length l) in
     let long : length (rot k (take n l)) ≡ e = rot-long k (take n l) ∙ length-take n l in
     let on : e + (i - e) ≡ i = omega arith in
-    (λ t. getD ((turned-is n k l ∙ ap (λ (r : List ℕ). rot k (take n l) ++ r) (sym (drop-cut n l))) t) ((sym on ∙ ap (λ (m : ℕ). m + (i - e)) (sym long)) t) 0)
+    (λ t. getD ((turned-is n k l ∙ ap (λ (r : List ℕ). rot k (take n l) ++ r) (sym (drop-cut n e l refl))) t) ((sym on ∙ ap (λ (m : ℕ). m + (i - e)) (sym long)) t) 0)
     ∙ getD-append-add (rot k (take n l)) (drop e l) (i - e) 0 ∙ getD-drop e l (i - e) 0 ∙ ap (λ (m : ℕ). getD l m 0) on
 
 -- two turns of all the bytes are one by the sum

@@ -20,4 +20,5 @@ withStretch capacity b bytes pool = take (b * capacity) pool ++ (bytes ++ drop (
 
 -- the pool with the first n bytes of buffer b turned left by k; a pool that has no such buffer stays as it is
 unfoldable pub turnedIn : ℕ → ℕ → ℕ → ℕ → List ℕ → List ℕ
-turnedIn capacity b n k pool = pick (leb (b * capacity + capacity) (length pool)) (withStretch capacity b (turned n k (stretch capacity b pool)) pool) pool
+turnedIn capacity b n k pool =
+    pick (leb (b * capacity + capacity) (length pool)) (withStretch capacity b (turned n k (stretch capacity b pool)) pool) pool

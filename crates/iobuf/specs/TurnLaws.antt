@@ -41,19 +41,26 @@ pub record TurnLaws : Type 0 where
   -- a stretch is as long as a buffer
   pub stretch-length : (capacity b : ℕ) (pool : List ℕ) → Fits capacity b pool → length (stretch capacity b pool) ≡ capacity
   -- a stretch that was filled holds what it was filled with
-  pub stretch-filled : (capacity b : ℕ) (bytes pool : List ℕ) → Fits capacity b pool → length bytes ≡ capacity → stretch capacity b (withStretch capacity b bytes pool) ≡ bytes
+  pub stretch-filled : (capacity b : ℕ) (bytes pool : List ℕ) → Fits capacity b pool → length bytes ≡ capacity
+      → stretch capacity b (withStretch capacity b bytes pool) ≡ bytes
   -- every other buffer's stretch is as it was
-  pub stretch-other : (capacity b b′ : ℕ) (bytes pool : List ℕ) → Fits capacity b pool → length bytes ≡ capacity → b′ ≢ b → stretch capacity b′ (withStretch capacity b bytes pool) ≡ stretch capacity b′ pool
+  pub stretch-other : (capacity b b′ : ℕ) (bytes pool : List ℕ) → Fits capacity b pool → length bytes ≡ capacity → b′ ≢ b
+      → stretch capacity b′ (withStretch capacity b bytes pool) ≡ stretch capacity b′ pool
   -- the pool with a buffer's own bytes is the pool
   pub filled-own : (capacity b : ℕ) (pool : List ℕ) → withStretch capacity b (stretch capacity b pool) pool ≡ pool
   -- of two fillings of a stretch the last counts
-  pub filled-twice : (capacity b : ℕ) (bytes bytes′ pool : List ℕ) → Fits capacity b pool → length bytes ≡ capacity → withStretch capacity b bytes′ (withStretch capacity b bytes pool) ≡ withStretch capacity b bytes′ pool
+  pub filled-twice : (capacity b : ℕ) (bytes bytes′ pool : List ℕ) → Fits capacity b pool → length bytes ≡ capacity
+      → withStretch capacity b bytes′ (withStretch capacity b bytes pool) ≡ withStretch capacity b bytes′ pool
   -- filling a stretch keeps the pool's length
-  pub filled-length : (capacity b : ℕ) (bytes pool : List ℕ) → Fits capacity b pool → length bytes ≡ capacity → length (withStretch capacity b bytes pool) ≡ length pool
+  pub filled-length : (capacity b : ℕ) (bytes pool : List ℕ) → Fits capacity b pool → length bytes ≡ capacity
+      → length (withStretch capacity b bytes pool) ≡ length pool
   -- where the buffer lies within the pool its stretch is turned; where it does not the pool stays as it is
-  pub turned-in : (capacity b n k : ℕ) (pool : List ℕ) → Fits capacity b pool → turnedIn capacity b n k pool ≡ withStretch capacity b (turned n k (stretch capacity b pool)) pool
+  pub turned-in : (capacity b n k : ℕ) (pool : List ℕ) → Fits capacity b pool
+      → turnedIn capacity b n k pool ≡ withStretch capacity b (turned n k (stretch capacity b pool)) pool
   pub turned-out : (capacity b n k : ℕ) (pool : List ℕ) → length pool < b * capacity + capacity → turnedIn capacity b n k pool ≡ pool
   -- a turn in the pool keeps the pool's length, turns its own stretch, and leaves every other buffer's as it was
   pub turned-in-length : (capacity b n k : ℕ) (pool : List ℕ) → length (turnedIn capacity b n k pool) ≡ length pool
-  pub turned-in-own : (capacity b n k : ℕ) (pool : List ℕ) → Fits capacity b pool → stretch capacity b (turnedIn capacity b n k pool) ≡ turned n k (stretch capacity b pool)
-  pub turned-in-other : (capacity b b′ n k : ℕ) (pool : List ℕ) → b′ ≢ b → stretch capacity b′ (turnedIn capacity b n k pool) ≡ stretch capacity b′ pool
+  pub turned-in-own : (capacity b n k : ℕ) (pool : List ℕ) → Fits capacity b pool
+      → stretch capacity b (turnedIn capacity b n k pool) ≡ turned n k (stretch capacity b pool)
+  pub turned-in-other : (capacity b b′ n k : ℕ) (pool : List ℕ) → b′ ≢ b
+      → stretch capacity b′ (turnedIn capacity b n k pool) ≡ stretch capacity b′ pool

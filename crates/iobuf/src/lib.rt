@@ -1,9 +1,17 @@
 // The bytes of a buffer, turned in place (store-io's IoBuf and the slices' rotate_left that optable.rs calls on it). An owned IoBuf is here
 // a buffer's number with the pool: its bytes are the pool's stretch from buffer × capacity on, which is lent on and turned there.
+//
+// moves     bytes moved within a slice
+// rotation  a slice turned by exchanging its sides
+// shift     the same where one side is short
+pub mod moves;
+pub mod rotation;
+pub mod shift;
+
 ghost use mathlib.Core.Path.{_≡_};
 ghost use Rattle.iobuf.specs.Turn.{turned, turnedIn};
-use moving::lesser;
-use rotation::rotate;
+use crate::moves::lesser;
+use crate::rotation::rotate;
 
 // Turns the first n bytes left by k (rotate_left); the bytes past n stay, and so do all where k is not below n.
 pub fn rotate_left(s: &mut [u8], n: usize, k: usize)

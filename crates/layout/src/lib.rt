@@ -1,7 +1,7 @@
 // The block (store-io's layout.rs): "Block is a power of two, 512 to 65,536", and what counts in blocks is a multiple of it. Every
-// function is total, on the block 0 too.
+// function is total, on the block 0 too. At the end, the small functions on numbers and tests that every crate above uses.
 ghost use mathlib.Core.Path.{_≡_};
-ghost use mathlib.Core.Bool.{_&&_};
+ghost use mathlib.Core.Bool.{_&&_, _||_};
 ghost use Prim.Native.Nat;
 ghost use Rattle.layout.specs.Block.{isBlock, onBlock};
 
@@ -43,4 +43,11 @@ pub fn both(a: bool, b: bool) -> bool
     ensures { λ r. ⌜ r ≡ (a && b) ⌝ }
 {
     if a { b } else { false }
+}
+
+// One of them holds (||, as both is &&).
+pub fn either(a: bool, b: bool) -> bool
+    ensures { λ r. ⌜ r ≡ (a || b) ⌝ }
+{
+    if a { true } else { b }
 }

@@ -1,8 +1,9 @@
-// lists: reads traces from standard input, one after another, and prints the replies. A line `# list` is the first of a trace: it starts from nothing, and lines are
-// counted from it. The traces were drawn and their replies given by store-io itself (compare's `list`), so that the gate replays them without Rust.
+// lists: reads traces from standard input, one after another, and prints the replies. A line `# list` is the first of a trace: it starts from
+// nothing, and lines are counted from it. The traces were drawn and their replies given by store-io itself (compare's `list`), so that the gate
+// replays them without Rust.
+use fields::reader::Reader;
 use input::Input;
-use replayed::Running;
-use trace::Reader;
+use session::turn::Running;
 
 // Whether a line is `# list`.
 fn is_list(r: Reader, line: &[u8; 4096]) -> bool {
@@ -49,14 +50,14 @@ fn turn(
     let from = input::next(was, line, chunk);
     let reader = from.reader;
     if !from.whole {
-        return replayed::moved(r, from);
+        return session::turn::moved(r, from);
     }
     if is_list(reader, line) {
         *pool = [0u8; 1048576];
-        return replayed::begun(first(from));
+        return session::turn::begun(first(from));
     }
-    let now = replayed::moved(r, from);
-    replayed::answer(now, line, plan, store, free, ready, owners, pool)
+    let now = session::turn::moved(r, from);
+    session::turn::answer(now, line, plan, store, free, ready, owners, pool)
 }
 
 // Reads lines until the input ends, and answers each. A loop has to end: it counts its turns down, from a number that no run uses up.
@@ -100,7 +101,7 @@ fn main() {
     let mut ready = [0u64; 1025];
     let mut owners = [0u64; 4096];
     let mut pool = [0u8; 1048576];
-    let r = replayed::begun(input::begin());
+    let r = session::turn::begun(input::begin());
     run(
         r,
         &mut plan,

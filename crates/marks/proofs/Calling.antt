@@ -25,8 +25,8 @@ use Rattle.step.specs.Sound.{Sound}
 use Rattle.step.proofs.Memory.{lengths-same}
 use Rattle.optable.specs.declared.Frees.the-variants.{Nothing as none}
 use Rattle.optable.specs.Counted.{acceptedIf, releasedBy}
-use Rattle.called.specs.declared.Touched.{Touched}
-use Rattle.called.specs.Called.{placeOf, CallsTo}
+use Rattle.optable.specs.declared.touched.Touched.{Touched}
+use Rattle.optable.specs.Called.{placeOf, CallsTo}
 
 -- words that can be compared with the lengths are at least 48
 pub enough : (l : Lengths) (s : List ℕ) → sameLengths l s ≡ true → 48 ≤ length s

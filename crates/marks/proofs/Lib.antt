@@ -1,4 +1,4 @@
--- Proofs about the definitions of specs/.
+-- From the words that a mark or a poison changes to the state, and to the calls as a whole.
 pub mod Words
 pub mod Parts
 pub mod Marks

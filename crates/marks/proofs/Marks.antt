@@ -9,7 +9,8 @@ use lib.Seq.{getD-set-same, getD-set-other}
 use Rattle.layout.specs.Pick.{pick}
 use Rattle.model.specs.declared.Gate.{Gate}
 use Rattle.model.specs.declared.Gate.the-variants.{Open, Recycled, Released}
-use Rattle.model.specs.Memory.{flag, gateIn, planIn, regionIn, word01}
+use Rattle.model.specs.Memory.{flag, gateIn, regionIn, word01}
+use Rattle.model.specs.Opening.{planIn}
 use Rattle.step.specs.Step.{withGate, withReadOnly, withForced}
 use Rattle.marks.specs.Marks.{gateWord}
 

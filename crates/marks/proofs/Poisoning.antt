@@ -16,7 +16,7 @@ use Rattle.step.specs.Step.{called, step}
 use Rattle.step.specs.Lists.{isAway}
 use Rattle.step.specs.Sound.{Sound}
 use Rattle.optable.specs.declared.Frees.the-variants.{Nothing as none}
-use Rattle.called.specs.Called.{lentOf, Beyond, CallsTo}
+use Rattle.optable.specs.Called.{lentOf, Beyond, CallsTo}
 use Rattle.marks.specs.Marks.{poisonedIn, withStore, MarksTo}
 use Rattle.marks.proofs.Calling.{enough, stepped, not-away, put-back}
 use Rattle.marks.proofs.Laws.{poison-laws}

@@ -26,8 +26,8 @@ use Rattle.step.specs.Step.{called, marked, withRegions, step}
 use Rattle.step.specs.Lists.{isAway}
 use Rattle.step.specs.Sound.{Sound}
 use Rattle.optable.specs.Counted.{acceptedIf, releasedBy}
-use Rattle.called.specs.declared.Touched.{Touched}
-use Rattle.called.specs.Called.{lentOf, awayWith, placeOf, Beyond, CallsTo}
+use Rattle.optable.specs.declared.touched.Touched.{Touched}
+use Rattle.optable.specs.Called.{lentOf, awayWith, placeOf, Beyond, CallsTo}
 use Rattle.marks.specs.Marks.{markedIn, withStore, SetsMark, MarksTo}
 use Rattle.marks.proofs.Words.{marked-in}
 use Rattle.marks.proofs.Parts.{state-with}

@@ -20,7 +20,8 @@ use Rattle.completion.specs.declared.Buffer.{Buffer}
 use Rattle.completion.specs.declared.Buffer.the-variants.{Back, Lost}
 use Rattle.completion.specs.declared.Completion.{Completion}
 use Rattle.model.specs.declared.Opening.{Opening}
-use Rattle.model.specs.Memory.{flag, opIn, errorIn, causeIn, rangeIn, ticketIn, receiptFor, outcomeIn, bufferIn, completionIn, opWord, hasWord, rawWord, outcomeWords, bufferWords, generationWord, completionWords, ErrorFits, TicketOf, OutcomeFits, CompletionFits}
+use Rattle.model.specs.Memory.{flag, opIn, errorIn, causeIn, rangeIn, ticketIn, outcomeIn, bufferIn, completionIn, opWord, hasWord, rawWord, outcomeWords, bufferWords, generationWord, completionWords, ErrorFits, TicketOf, OutcomeFits, CompletionFits}
+use Rattle.model.specs.State.{receiptFor}
 use Rattle.model.specs.Laws.{CompletionLaws}
 
 op-read : (op : Op) → opIn (opWord op) ≡ op

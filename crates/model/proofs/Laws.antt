@@ -16,16 +16,16 @@ use Rattle.layout.proofs.Tests.{and-left, and-right, and-both}
 use Rattle.regionmap.specs.Map.{Map, ascends, place}
 use Rattle.regionmap.specs.Words.{runsIn, mapIn, HoldsMap}
 use Rattle.regionmap.specs.Laws.{Lawful}
-use Rattle.transfer.specs.Transfer.{CardAndPool, Operation, wrote, readIn, whole, Accepted, Distinct, OneWrite, OneRead}
-use Rattle.transfer.proofs.Theorem.{transfers}
+use Rattle.posix.specs.Transfer.{CardAndPool, Operation, wrote, readIn, whole, Accepted, Distinct, OneWrite, OneRead}
+use Rattle.posix.proofs.Theorem.{transfers}
 use Rattle.model.specs.declared.Opening.{Opening}
 use Rattle.model.specs.declared.Lengths.{Lengths}
-use Rattle.model.specs.Opening.{Plan}
-use Rattle.model.specs.Memory.{planIn, plansIn, opens, sameLengths, storeHead, over, storeOpened}
+use Rattle.model.specs.Opening.{Plan, planIn, plansIn, opens}
+use Rattle.model.specs.Memory.{sameLengths, storeHead, over, storeOpened}
 use Rattle.model.specs.Laws.{mapAt, mapWordsAt, operationAt, Asked, OpenedMaps, OpeningLaws}
 use Rattle.model.proofs.Rules.{numbers-hold, room-holds, plan-listed, pool-holds}
 use Rattle.model.proofs.Opened.{opened-state}
-use Rattle.model.proofs.Maps.{runs-length, few-runs, opened-maps}
+use Rattle.model.proofs.Maps.{runs-length, plans-length, inside, plan-maps, opened-maps}
 
 -- ---- the words of a region
 
@@ -98,10 +98,10 @@ module _ (o : Opening) (plan store : List ℕ) (l : Lengths) (ok : opens o plan 
 
   pub held : HoldsMap (mapWordsAt (storeOpened o plan l store) h) × (mapIn (mapWordsAt (storeOpened o plan l store) h) ≡ mapAt o plan h)
   held =
-      let few = few-runs o plan l ok h lt in (
+      let few = opened-maps o plan l ok .runs h (inside o plan h lt) in (
         record {
           room = omega (arith, few, count-is, words-long);
-          rising = ap (λ (m : Map). ascends 0 (m .more) (m .capacity)) map-is ∙ opened-maps o plan l ok .lawful h lt .rising;
+          rising = ap (λ (m : Map). ascends 0 (m .more) (m .capacity)) map-is ∙ opened-maps o plan l ok .lawful h (inside o plan h lt) .rising;
         },
         map-is,
       )
@@ -149,7 +149,7 @@ module _ (o : Opening) (plan : List ℕ) (l : Lengths) (ok : opens o plan l ≡ 
 
   accepted : (pool : List ℕ) → length pool ≡ l .pool → Accepted it pool
   accepted pool e = record {
-    lawful = opened-maps o plan l ok .lawful h (a .region);
+    lawful = opened-maps o plan l ok .lawful h (inside o plan h (a .region));
     inData = a .inData;
     inBuffer = a .length;
     inPool =
@@ -159,14 +159,14 @@ module _ (o : Opening) (plan : List ℕ) (l : Lengths) (ok : opens o plan l ≡ 
   }
 
   in-capacity : (i : ℕ) → i < total → start + i < mapAt o plan h .capacity
-  in-capacity i li = omega (arith, a .inData, opened-maps o plan l ok .lawful h (a .region) .within)
+  in-capacity i li = omega (arith, a .inData, opened-maps o plan l ok .lawful h (inside o plan h (a .region)) .within)
 
   distinct : Distinct it
   distinct i j li lj e = by-case (ℕ-discrete i j)
     where
       by-case : Dec (i ≡ j) → i ≡ j
       by-case (yes p) = p
-      by-case (no other) = absurd (opened-maps o plan l ok .apart h (start + i) (start + j) (a .region) (in-capacity i li) (in-capacity j lj) (λ q. other (add-left-cancel start q)) e)
+      by-case (no other) = absurd (opened-maps o plan l ok .apart h (start + i) (start + j) (inside o plan h (a .region)) (in-capacity i li) (in-capacity j lj) (λ q. other (add-left-cancel start q)) e)
 
   pub one-write : (s : CardAndPool) → length (s .pool) ≡ l .pool → OneWrite it s (whole wrote it s)
   one-write s e = transfers .write it s (accepted (s .pool) e) distinct
@@ -179,7 +179,9 @@ opening-laws = record {
   numbers = numbers-hold;
   room = room-holds;
   state = opened-state;
+  plans = plan-maps;
   maps = opened-maps;
+  regions = λ o plan. plans-length (o .regions) plan;
   held = held;
   lengths = λ o plan store l later ok. (same o plan store l later ok, asked o plan store l later ok);
   write = one-write;

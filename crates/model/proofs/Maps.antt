@@ -1,4 +1,4 @@
--- The maps of an admitted opening: each is lawful, and no two positions share a card byte. The tests on the list of plans are read at each place of
+-- The maps of a list of plans that keeps the opening's rules on regions: each is lawful, and no two positions share a card byte. The tests on the list of plans are read at each place of
 -- the list, by induction; the rest are the map's laws.
 use mathlib.Core.Path.{_≡_, refl, sym, ap, _∙_, subst}
 use mathlib.Core.Logic.{_≢_, ⊎-elim}
@@ -18,9 +18,8 @@ use Rattle.regionmap.specs.Laws.{Lawful, Separate}
 use Rattle.regionmap.proofs.Laws.{map-laws, extent-laws}
 use Rattle.model.specs.declared.Opening.{Opening}
 use Rattle.model.specs.declared.Lengths.{Lengths}
-use Rattle.model.specs.Opening.{Plan, generationRule, runsRule, sizesRule, startsRule, blocksRule, mapRule, regionRule, eachRegion, allExtents, idsRule, withinRule, apartRule, allTrue, regionRules}
-use Rattle.model.specs.Memory.{planIn, plansIn, opens}
-use Rattle.model.specs.Laws.{mapAt, OpenedMaps}
+use Rattle.model.specs.Opening.{Plan, generationRule, runsRule, sizesRule, startsRule, blocksRule, mapRule, regionRule, eachRegion, allExtents, idsRule, withinRule, apartRule, allTrue, regionRules, planIn, plansIn, opens}
+use Rattle.model.specs.Laws.{mapOf, PlanMaps, OpenedMaps}
 use Rattle.model.proofs.Rules.{head-true, tail-true, numbers-hold, regions-hold}
 
 pub plans-length : (n : ℕ) (ws : List ℕ) → length (plansIn n ws) ≡ n
@@ -94,53 +93,51 @@ module _ (d : Plan) where
   separate (p ∷ ps) e (suc h) zero lt l = absurd (not-suc-le-zero lt)
   separate (p ∷ ps) e (suc h) (suc k) lt l = separate ps (extent-laws .apart-second (extents (p .map)) (allExtents ps) e) h k (le-of-suc-le-suc lt) (le-of-suc-le-suc l)
 
-module _ (o : Opening) (plan : List ℕ) (l : Lengths) (ok : opens o plan l ≡ true) where
-  abbrev ps : List Plan
-  ps = plansIn (o .regions) plan
-
+module _ (o : Opening) (ps : List Plan) (ok : allTrue (regionRules o ps) ≡ true) (small : o .card ≤ 2 ^ 63 - 1) where
   abbrev none : Plan
   none = planIn []
 
   each : eachRegion (o .block) ps ≡ true
   unfolding regionRules
-  each = head-true _ _ (regions-hold o plan l ok)
+  each = head-true _ _ ok
 
   within : allWithin (o .card) (allExtents ps) ≡ true
   unfolding regionRules withinRule
-  within = head-true _ _ (tail-true _ _ (tail-true _ _ (regions-hold o plan l ok)))
+  within = head-true _ _ (tail-true _ _ (tail-true _ _ ok))
 
   apart : allApart (allExtents ps) ≡ true
   unfolding regionRules apartRule
-  apart = head-true _ _ (tail-true _ _ (tail-true _ _ (tail-true _ _ (regions-hold o plan l ok))))
+  apart = head-true _ _ (tail-true _ _ (tail-true _ _ (tail-true _ _ ok)))
 
-  inside : (h : ℕ) → h < o .regions → h < length ps
-  inside h lt = subst (λ (n : ℕ). h < n) (sym (plans-length (o .regions) plan)) lt
+  rule-at : (h : ℕ) → h < length ps → regionRule (o .block) (getD ps h none) ≡ true
+  rule-at h lt = each-rule none (o .block) ps each h lt
 
-  rule-at : (h : ℕ) → h < o .regions → regionRule (o .block) (getD ps h none) ≡ true
-  rule-at h lt = each-rule none (o .block) ps each h (inside h lt)
-
-  lawful : (h : ℕ) → h < o .regions → Lawful (mapAt o plan h)
+  lawful : (h : ℕ) → h < length ps → Lawful (mapOf ps h)
   lawful h lt = lawful-of (o .block) (getD ps h none) (rule-at h lt)
 
-  pub small-generation : (h : ℕ) → h < o .regions → getD ps h none .generation < 2 ^ 32
-  small-generation h lt = small-of (o .block) (getD ps h none) (rule-at h lt)
-
-  pub few-runs : (h : ℕ) → h < o .regions → length (mapAt o plan h .more) ≤ 32
-  few-runs h lt = few-of (o .block) (getD ps h none) (rule-at h lt)
-
   -- of two regions one comes first
-  ordered : (h k p q : ℕ) → h < o .regions → k < o .regions → h < k → p < mapAt o plan h .capacity → q < mapAt o plan k .capacity → place (mapAt o plan h) p ≢ place (mapAt o plan k) q
-  ordered h k p q lh lk lt = map-laws .between (mapAt o plan h) (mapAt o plan k) (lawful h lh) (lawful k lk) (separate none ps apart h k lt (inside k lk)) p q
+  ordered : (h k p q : ℕ) → h < length ps → k < length ps → h < k → p < mapOf ps h .capacity → q < mapOf ps k .capacity → place (mapOf ps h) p ≢ place (mapOf ps k) q
+  ordered h k p q lh lk lt = map-laws .between (mapOf ps h) (mapOf ps k) (lawful h lh) (lawful k lk) (separate none ps apart h k lt lk) p q
 
-  either-way : (h k p q : ℕ) → h < o .regions → k < o .regions → Dec (h < k) → h ≢ k → p < mapAt o plan h .capacity → q < mapAt o plan k .capacity → place (mapAt o plan h) p ≢ place (mapAt o plan k) q
+  either-way : (h k p q : ℕ) → h < length ps → k < length ps → Dec (h < k) → h ≢ k → p < mapOf ps h .capacity → q < mapOf ps k .capacity → place (mapOf ps h) p ≢ place (mapOf ps k) q
   either-way h k p q lh lk (yes lt) ne lp lq = ordered h k p q lh lk lt lp lq
   either-way h k p q lh lk (no nlt) ne lp lq = λ e. ordered k h q p lk lh (omega arith) lq lp (sym e)
 
-  pub opened-maps : OpenedMaps o plan
-  opened-maps = record {
+  pub plan-maps : PlanMaps (o .card) ps
+  plan-maps = record {
+    generation = λ h lt. small-of (o .block) (getD ps h none) (rule-at h lt);
+    runs = λ h lt. few-of (o .block) (getD ps h none) (rule-at h lt);
     lawful = lawful;
-    apart = λ h p q lh. map-laws .injective (mapAt o plan h) (lawful h lh) (each-apart none ps apart h (inside h lh)) p q;
+    apart = λ h p q lh. map-laws .injective (mapOf ps h) (lawful h lh) (each-apart none ps apart h lh) p q;
     apart-regions = λ h k p q lh lk. either-way h k p q lh lk (decLt h k);
-    on-card = λ h p lh. map-laws .within-card (mapAt o plan h) (lawful h lh) (o .card) (each-within none (o .card) ps within h (inside h lh)) p;
-    fits = λ h p lh. map-laws .fits (mapAt o plan h) (lawful h lh) (o .card) (each-within none (o .card) ps within h (inside h lh)) (omega (arith, numbers-hold o plan l ok .card)) p;
+    on-card = λ h p lh. map-laws .within-card (mapOf ps h) (lawful h lh) (o .card) (each-within none (o .card) ps within h lh) p;
+    fits = λ h p lh. map-laws .fits (mapOf ps h) (lawful h lh) (o .card) (each-within none (o .card) ps within h lh) (omega (arith, small)) p;
   }
+
+module _ (o : Opening) (plan : List ℕ) (l : Lengths) (ok : opens o plan l ≡ true) where
+  pub opened-maps : OpenedMaps o plan
+  opened-maps = plan-maps o (plansIn (o .regions) plan) (regions-hold o plan l ok) (numbers-hold o plan l ok .card)
+
+-- a handle below the count of regions is a place of the list of plans
+pub inside : (o : Opening) (plan : List ℕ) (h : ℕ) → h < o .regions → h < length (plansIn (o .regions) plan)
+inside o plan h lt = subst (λ (n : ℕ). h < n) (sym (plans-length (o .regions) plan)) lt

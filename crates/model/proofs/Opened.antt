@@ -15,8 +15,8 @@ use Rattle.model.specs.declared.Lengths.{Lengths}
 use Rattle.model.specs.declared.Gate.{Gate}
 use Rattle.model.specs.declared.Row.{Row}
 use Rattle.model.specs.State.{Region, State, Owner, Owner.host, freed, upFrom}
-use Rattle.model.specs.Opening.{Plan, atFirst, opened}
-use Rattle.model.specs.Memory.{Lent, lengthsOf, planIn, plansIn, opens, flag, settingsIn, lengthsIn, poisonIn, gateIn, regionIn, regionsIn, ownerIn, readyIn, stateIn, word01, storeHead, over, rowsOpened, storeOpened, freeOpened, readyOpened, ownersOpened, openedLent}
+use Rattle.model.specs.Opening.{Plan, atFirst, opened, planIn, plansIn, opens}
+use Rattle.model.specs.Memory.{Lent, lengthsOf, flag, settingsIn, lengthsIn, poisonIn, gateIn, regionIn, regionsIn, ownerIn, readyIn, stateIn, word01, storeHead, over, rowsOpened, storeOpened, freeOpened, readyOpened, ownersOpened, openedLent}
 use Rattle.model.specs.Laws.{fresh}
 use Rattle.model.proofs.Rules.{numbers-hold, plan-listed}
 

@@ -10,8 +10,7 @@ use Rattle.layout.specs.Block.{onBlock}
 use Rattle.layout.proofs.Tests.{and-left, and-right}
 use Rattle.model.specs.declared.Opening.{Opening}
 use Rattle.model.specs.declared.Lengths.{Lengths}
-use Rattle.model.specs.Opening.{between, allTrue, numberRules, lengthRules, regionRules, admits}
-use Rattle.model.specs.Memory.{plansIn, listed, opens}
+use Rattle.model.specs.Opening.{between, allTrue, numberRules, lengthRules, regionRules, admits, plansIn, listed, opens}
 use Rattle.model.specs.Meaning.{Numbers, Room}
 
 -- the first test, and the rest

@@ -5,38 +5,47 @@ use mathlib.Core.Path.{_≡_}
 use mathlib.Core.Logic.{_≢_}
 use mathlib.Core.Bool.{true}
 use mathlib.Core.List.{List, []}
-use Prim.Native.Nat.{ℕ, _+_, _*_, _≤_, _<_}
+use Prim.Native.Nat.{ℕ, _+_, _-_, _*_, _^_, _≤_, _<_}
 use lib.ListN.{length, getD, take, drop}
 use Rattle.regionmap.specs.Map.{Map, place}
 use Rattle.regionmap.specs.Words.{wrap64, mapIn, HoldsMap}
 use Rattle.regionmap.specs.Laws.{Lawful}
-use Rattle.transfer.specs.Transfer.{CardAndPool, Operation, wrote, readIn, whole, OneWrite, OneRead}
+use Rattle.posix.specs.Transfer.{CardAndPool, Operation, wrote, readIn, whole, OneWrite, OneRead}
 use Rattle.completion.specs.declared.Completion.{Completion}
 use Rattle.model.specs.declared.Opening.{Opening}
 use Rattle.model.specs.declared.Lengths.{Lengths}
 use Rattle.model.specs.declared.Counts.{Counts}
-use Rattle.model.specs.State.{State}
-use Rattle.model.specs.Opening.{Plan, opened}
-use Rattle.model.specs.Memory.{Lent, lengthsOf, sameLengths, planIn, plansIn, opens, stateIn, completionIn, completionWords, CompletionFits, storeOpened, openedLent}
+use Rattle.model.specs.Opening.{opened, planIn, plansIn, opens, Plan, allTrue, regionRules}
+use Rattle.model.specs.Memory.{Lent, lengthsOf, sameLengths, stateIn, completionIn, completionWords, CompletionFits, storeOpened, openedLent}
 use Rattle.model.specs.Meaning.{Numbers, Room}
 
 -- the counts at first
 abbrev pub fresh : Counts
 fresh = record { live = 0; ready = 0; submissions = 0 }
 
--- the map of the region at handle h
-abbrev pub mapAt : Opening → List ℕ → ℕ → Map
-mapAt o plan h = getD (plansIn (o .regions) plan) h (planIn []) .map
+-- the map at place h of a list of plans
+abbrev pub mapOf : List Plan → ℕ → Map
+mapOf ps h = getD ps h (planIn []) .map
 
-pub record OpenedMaps (o : Opening) (plan : List ℕ) : Type 0 where
-  pub lawful : (h : ℕ) → h < o .regions → Lawful (mapAt o plan h)
+-- what holds of a list of plans that keeps the rules, and of their maps, on a card of so many bytes
+pub record PlanMaps (card : ℕ) (ps : List Plan) : Type 0 where
+  pub generation : (h : ℕ) → h < length ps → getD ps h (planIn []) .generation < 2 ^ 32
+  pub runs : (h : ℕ) → h < length ps → length (mapOf ps h .more) ≤ 32
+  pub lawful : (h : ℕ) → h < length ps → Lawful (mapOf ps h)
   -- no two positions of one region share a card byte, nor do positions of two regions
-  pub apart : (h p q : ℕ) → h < o .regions → p < mapAt o plan h .capacity → q < mapAt o plan h .capacity → p ≢ q → place (mapAt o plan h) p ≢ place (mapAt o plan h) q
-  pub apart-regions : (h k p q : ℕ) → h < o .regions → k < o .regions → h ≢ k → p < mapAt o plan h .capacity → q < mapAt o plan k .capacity
-      → place (mapAt o plan h) p ≢ place (mapAt o plan k) q
+  pub apart : (h p q : ℕ) → h < length ps → p < mapOf ps h .capacity → q < mapOf ps h .capacity → p ≢ q → place (mapOf ps h) p ≢ place (mapOf ps h) q
+  pub apart-regions : (h k p q : ℕ) → h < length ps → k < length ps → h ≢ k → p < mapOf ps h .capacity → q < mapOf ps k .capacity
+      → place (mapOf ps h) p ≢ place (mapOf ps k) q
   -- every card offset is on the card, and is itself in 64 bits
-  pub on-card : (h p : ℕ) → h < o .regions → p < mapAt o plan h .capacity → place (mapAt o plan h) p < o .card
-  pub fits : (h p : ℕ) → h < o .regions → p < mapAt o plan h .capacity → wrap64 (place (mapAt o plan h) p) ≡ place (mapAt o plan h) p
+  pub on-card : (h p : ℕ) → h < length ps → p < mapOf ps h .capacity → place (mapOf ps h) p < card
+  pub fits : (h p : ℕ) → h < length ps → p < mapOf ps h .capacity → wrap64 (place (mapOf ps h) p) ≡ place (mapOf ps h) p
+
+-- the map of the region at handle h of an opening, and what holds of all its maps
+abbrev pub mapAt : Opening → List ℕ → ℕ → Map
+mapAt o plan h = mapOf (plansIn (o .regions) plan) h
+
+abbrev pub OpenedMaps : Opening → List ℕ → Type 0
+OpenedMaps o plan = PlanMaps (o .card) (plansIn (o .regions) plan)
 
 -- the words of region h's map in the store of an opened table
 abbrev pub mapWordsAt : List ℕ → ℕ → List ℕ
@@ -58,8 +67,13 @@ pub record OpeningLaws : Type 0 where
   pub numbers : (o : Opening) (plan : List ℕ) (l : Lengths) → opens o plan l ≡ true → Numbers o
   pub room : (o : Opening) (plan : List ℕ) (l : Lengths) → opens o plan l ≡ true → Room o l
   -- "At first ..": the state in what is lent is the one that document 01 says
-  pub state : (o : Opening) (plan : List ℕ) (l : Lent) → opens o plan (lengthsOf l) ≡ true → stateIn fresh (openedLent o plan l) ≡ opened o (plansIn (o .regions) plan) (lengthsOf l) (l .pool)
+  pub state : (o : Opening) (plan : List ℕ) (l : Lent) → opens o plan (lengthsOf l) ≡ true
+      → stateIn fresh (openedLent o plan l) ≡ opened o (plansIn (o .regions) plan) (lengthsOf l) (l .pool)
+  -- the maps of any list of plans that keeps the rules on regions, on a card that keeps its own
+  pub plans : (o : Opening) (ps : List Plan) → allTrue (regionRules o ps) ≡ true → o .card ≤ 2 ^ 63 - 1 → PlanMaps (o .card) ps
+  -- so those of an opening, of which there are as many as it says
   pub maps : (o : Opening) (plan : List ℕ) (l : Lengths) → opens o plan l ≡ true → OpenedMaps o plan
+  pub regions : (o : Opening) (plan : List ℕ) → length (plansIn (o .regions) plan) ≡ o .regions
   -- the words of each region hold its map
   pub held : (o : Opening) (plan store : List ℕ) (l : Lengths) → opens o plan l ≡ true → (h : ℕ) → h < o .regions
       → HoldsMap (mapWordsAt (storeOpened o plan l store) h) × (mapIn (mapWordsAt (storeOpened o plan l store) h) ≡ mapAt o plan h)
@@ -67,9 +81,11 @@ pub record OpeningLaws : Type 0 where
   pub lengths : (o : Opening) (plan store : List ℕ) (l later : Lengths) → opens o plan l ≡ true
       → (sameLengths later (storeOpened o plan l store) ≡ true → later ≡ l) × (later ≡ l → sameLengths later (storeOpened o plan l store) ≡ true)
   -- "act together like one transfer of every byte to or from its mapped card offset, and touch no other byte", of any range of any region
-  pub write : (o : Opening) (plan : List ℕ) (l : Lengths) → opens o plan l ≡ true → (h b start total : ℕ) → Asked o plan h b start total → (s : CardAndPool) → length (s .pool) ≡ l .pool
+  pub write : (o : Opening) (plan : List ℕ) (l : Lengths) → opens o plan l ≡ true → (h b start total : ℕ) → Asked o plan h b start total
+      → (s : CardAndPool) → length (s .pool) ≡ l .pool
       → OneWrite (operationAt o plan h b start total) s (whole wrote (operationAt o plan h b start total) s)
-  pub read : (o : Opening) (plan : List ℕ) (l : Lengths) → opens o plan l ≡ true → (h b start total : ℕ) → Asked o plan h b start total → (s : CardAndPool) → length (s .pool) ≡ l .pool
+  pub read : (o : Opening) (plan : List ℕ) (l : Lengths) → opens o plan l ≡ true → (h b start total : ℕ) → Asked o plan h b start total
+      → (s : CardAndPool) → length (s .pool) ≡ l .pool
       → OneRead (operationAt o plan h b start total) s (whole readIn (operationAt o plan h b start total) s)
 
 -- A completion's words are 16, and one that lies in words is read back from them. Proved in proofs/Completions.antt (completion-laws).

@@ -1,43 +1,42 @@
 -- How the table lies in what the host lends: the row memory, which is the rows, the store's words, the free stack, the completions and the buffers'
 -- owners; and the pool. Only these definitions and the code know the places.
 --
--- store    0 block, 1 depth, 2 lifetime, 3 card, 4 buffers, 5 capacity, 6 read-only, 7 flush policy, 8 volume, 9 class, 10 label, 11 epoch, 12 regions;
---          13 to 18 the lengths of rows, store, free, ready, owners and pool; 19 to 22 poison: whether, operation, whether an error, error; 23 unused;
---          24 + 3 h region h's gate, read-only and forced marks; 48 + 70 h region h: id, generation, map (Words of regionmap)
+-- store    0 block, 1 depth, 2 lifetime, 3 card, 4 buffers, 5 capacity, 6 read-only, 7 flush policy, 8 volume, 9 class, 10 label, 11 epoch,
+--          12 regions; 13 to 18 the lengths of rows, store, free, ready, owners and pool; 19 to 22 poison: whether, operation, whether an error,
+--          error; 23 unused; 24 + 3 h region h's gate, read-only and forced marks; 48 + 70 h region h: id, generation, map (Words of regionmap)
 -- free     the free rows, top first, from place `live` up to the depth
 -- ready    0 the place of the oldest completion; 1 + 16 i the completion at place i of a ring of depth places
 -- owners   of each buffer: 0 the host, 1 the table, 2 lost
 use mathlib.Core.Path.{_≡_}
-use mathlib.Core.Bool.{Bool, true, false, not, _&&_, _||_}
+use mathlib.Core.Bool.{Bool, true, false, not, _&&_}
 use mathlib.Core.List.{List, [], _∷_, _++_, map}
-use Prim.Native.Nat.{ℕ, zero, suc, _+_, _-_, _*_, _<_, _%_, _^_}
-use lib.ListN.{length, getD, take, drop, set, replicate}
+use Prim.Native.Nat.{ℕ, zero, suc, _+_, _*_, _<_, _%_, _^_}
+use lib.ListN.{length, getD, take, drop, replicate}
 use lib.Dec.{leb, eqb}
 use Rattle.layout.specs.Pick.{pick}
-use Rattle.regionmap.specs.Words.{mapIn, positionOf}
+use Rattle.regionmap.specs.Words.{positionOf}
 use Rattle.domain.specs.declared.Op.{Op}
-use Rattle.domain.specs.declared.Op.the-variants.{None as noOp, Read as readOp, Write as writeOp, Flush as flushOp}
+use Rattle.domain.specs.declared.Op.the-variants as Op
 use Rattle.domain.specs.declared.OsError.{OsError}
-use Rattle.domain.specs.declared.OsError.the-variants.{None as noError, Raw}
+use Rattle.domain.specs.declared.OsError.the-variants as OsError
 use Rattle.domain.specs.declared.FirstCause.{FirstCause}
 use Rattle.domain.specs.declared.Poisoned.{Poisoned}
-use Rattle.domain.specs.declared.Poisoned.the-variants.{Never, First}
+use Rattle.domain.specs.declared.Poisoned.the-variants as Poisoned
 use Rattle.completion.specs.declared.WriteTicket.{WriteTicket}
-use Rattle.completion.specs.declared.DurableReceipt.{DurableReceipt}
 use Rattle.completion.specs.declared.Range.{Range}
 use Rattle.completion.specs.declared.Outcome.{Outcome}
-use Rattle.completion.specs.declared.Outcome.the-variants.{Written, Receipt, Read, Unknown, Interrupted, Corruption, Io, QueueFull, Poisoned as poisonedBy}
+use Rattle.completion.specs.declared.Outcome.the-variants as Outcome
 use Rattle.completion.specs.declared.Buffer.{Buffer}
-use Rattle.completion.specs.declared.Buffer.the-variants.{Back, Lost}
+use Rattle.completion.specs.declared.Buffer.the-variants as Buffer
 use Rattle.completion.specs.declared.Completion.{Completion}
 use Rattle.model.specs.declared.Opening.{Opening}
 use Rattle.model.specs.declared.Lengths.{Lengths}
 use Rattle.model.specs.declared.Gate.{Gate}
-use Rattle.model.specs.declared.Gate.the-variants.{Open, Recycled, Released}
+use Rattle.model.specs.declared.Gate.the-variants as Gate
 use Rattle.model.specs.declared.Counts.{Counts}
 use Rattle.model.specs.declared.Row.{Row}
-use Rattle.model.specs.State.{Region, Owner, Owner.host, Owner.table, Owner.lost, State, freed, upFrom}
-use Rattle.model.specs.Opening.{Plan, admits}
+use Rattle.model.specs.State.{Region, Owner, Owner.host, Owner.table, Owner.lost, State, freed, upFrom, receiptFor}
+use Rattle.model.specs.Opening.{opens, planIn}
 
 -- what the host lends
 pub record Lent : Type 0 where
@@ -49,24 +48,15 @@ pub record Lent : Type 0 where
   pub pool : List ℕ
 
 unfoldable pub lengthsOf : Lent → Lengths
-lengthsOf l = record { rows = length (l .rows); store = length (l .store); free = length (l .free); ready = length (l .ready); owners = length (l .owners); pool = length (l .pool) }
-
--- ---- the plan of an opening: 70 words a region
-
-unfoldable pub planIn : List ℕ → Plan
-planIn ws = record { id = getD ws 0 0; generation = getD ws 1 0; map = mapIn (drop 2 ws) }
-
-unfoldable pub plansIn : ℕ → List ℕ → List Plan
-plansIn zero ws = []
-plansIn (suc n) ws = planIn (take 70 ws) ∷ plansIn n (drop 70 ws)
-
--- the plan lists as many regions as the opening says
-unfoldable pub listed : Opening → List ℕ → Bool
-listed o ws = leb (70 * o .regions) (length ws)
-
--- all rules of an opening hold
-unfoldable pub opens : Opening → List ℕ → Lengths → Bool
-opens o plan l = admits o (listed o plan) (plansIn (o .regions) plan) l
+lengthsOf l =
+    record {
+      rows = length (l .rows);
+      store = length (l .store);
+      free = length (l .free);
+      ready = length (l .ready);
+      owners = length (l .owners);
+      pool = length (l .pool);
+    }
 
 -- ---- a table in what is lent
 
@@ -76,7 +66,21 @@ flag n = not (eqb n 0)
 
 unfoldable pub settingsIn : List ℕ → Opening
 settingsIn s =
-    record { block = getD s 0 0; depth = getD s 1 0; lifetime = getD s 2 0; card = getD s 3 0; buffers = getD s 4 0; capacity = getD s 5 0; «read_only» = flag (getD s 6 0); flush = flag (getD s 7 0); volume = getD s 8 0; class = getD s 9 0; label = getD s 10 0; epoch = getD s 11 0; regions = getD s 12 0 }
+    record {
+      block = getD s 0 0;
+      depth = getD s 1 0;
+      lifetime = getD s 2 0;
+      card = getD s 3 0;
+      buffers = getD s 4 0;
+      capacity = getD s 5 0;
+      «read_only» = flag (getD s 6 0);
+      flush = flag (getD s 7 0);
+      volume = getD s 8 0;
+      class = getD s 9 0;
+      label = getD s 10 0;
+      epoch = getD s 11 0;
+      regions = getD s 12 0;
+    }
 
 unfoldable pub lengthsIn : List ℕ → Lengths
 lengthsIn s = record { rows = getD s 13 0; store = getD s 14 0; free = getD s 15 0; ready = getD s 16 0; owners = getD s 17 0; pool = getD s 18 0 }
@@ -85,28 +89,37 @@ lengthsIn s = record { rows = getD s 13 0; store = getD s 14 0; free = getD s 15
 -- them are another length too.
 unfoldable pub sameLengths : Lengths → List ℕ → Bool
 sameLengths l s =
-    leb 48 (length s) && (eqb (l .rows) (getD s 13 0) && (eqb (l .store) (getD s 14 0) && (eqb (l .free) (getD s 15 0) && (eqb (l .ready) (getD s 16 0) && (eqb (l .owners) (getD s 17 0) && eqb (l .pool) (getD s 18 0))))))
+    leb 48 (length s) && (eqb (l .rows) (getD s 13 0) &&
+    (eqb (l .store) (getD s 14 0) && (eqb (l .free) (getD s 15 0)
+    && (eqb (l .ready) (getD s 16 0) && (eqb (l .owners) (getD s 17 0) && eqb (l .pool) (getD s 18 0))))))
 
 unfoldable pub opIn : ℕ → Op
-opIn n = pick (eqb n 0) noOp (pick (eqb n 1) readOp (pick (eqb n 2) writeOp flushOp))
+opIn n = pick (eqb n 0) Op.None (pick (eqb n 1) Op.Read (pick (eqb n 2) Op.Write Op.Flush))
 
 -- an OS error, of two words: whether there is one, and the error, whose low 32 bits count
 unfoldable pub errorIn : ℕ → ℕ → OsError
-errorIn has n = pick (flag has) (Raw (n % 2 ^ 32)) noError
+errorIn has n = pick (flag has) (OsError.Raw (n % 2 ^ 32)) OsError.None
 
 unfoldable pub causeIn : ℕ → ℕ → ℕ → FirstCause
 causeIn op has n = record { op = opIn op; raw = errorIn has n }
 
 unfoldable pub poisonIn : List ℕ → Poisoned
-poisonIn s = pick (flag (getD s 19 0)) (First (causeIn (getD s 20 0) (getD s 21 0) (getD s 22 0))) Never
+poisonIn s = pick (flag (getD s 19 0)) (Poisoned.First (causeIn (getD s 20 0) (getD s 21 0) (getD s 22 0))) Poisoned.Never
 
 unfoldable pub gateIn : ℕ → Gate
-gateIn n = pick (eqb n 0) Open (pick (eqb n 1) Recycled Released)
+gateIn n = pick (eqb n 0) Gate.Open (pick (eqb n 1) Gate.Recycled Gate.Released)
 
 -- a region, of its marks and its own words
 unfoldable pub regionIn : List ℕ → List ℕ → Region
 regionIn marks ws =
-    record { id = planIn ws .id; generation = planIn ws .generation; map = planIn ws .map; gate = gateIn (getD marks 0 0); readOnly = flag (getD marks 1 0); forced = flag (getD marks 2 0) }
+    record {
+      id = planIn ws .id;
+      generation = planIn ws .generation;
+      map = planIn ws .map;
+      gate = gateIn (getD marks 0 0);
+      readOnly = flag (getD marks 1 0);
+      forced = flag (getD marks 2 0);
+    }
 
 unfoldable pub regionsIn : ℕ → List ℕ → List ℕ → List Region
 regionsIn zero marks ws = []
@@ -124,27 +137,30 @@ rangeIn c = record { region = getD c 2 0; start = positionOf (getD c 3 0); end =
 
 unfoldable pub ticketIn : Opening → List ℕ → WriteTicket
 ticketIn o c =
-    record { volume = o .volume; region = getD c 2 0; generation = getD c 13 0 % 2 ^ 32; start = positionOf (getD c 3 0); end = positionOf (getD c 4 0); need = getD c 5 0; epoch = o .epoch }
-
--- "a receipt with the result's need, synced unless that is 0 or 2^64 − 1"; "A receipt takes its range from the ticket; untorn and prefix are false."
-unfoldable pub receiptFor : Opening → WriteTicket → ℕ → DurableReceipt
-receiptFor o t n =
-    record { volume = t .volume; region = t .region; generation = t .generation; class = o .class; label = o .label; start = t .start; through = t .end; untorn = false; need = n; prefix = false; synced = not (eqb n 0 || eqb n (2 ^ 64 - 1)); epoch = t .epoch }
+    record {
+      volume = o .volume;
+      region = getD c 2 0;
+      generation = getD c 13 0 % 2 ^ 32;
+      start = positionOf (getD c 3 0);
+      end = positionOf (getD c 4 0);
+      need = getD c 5 0;
+      epoch = o .epoch;
+    }
 
 unfoldable pub outcomeIn : Opening → List ℕ → Outcome
 outcomeIn o c =
-    pick (eqb (getD c 1 0) 1) (Written (ticketIn o c))
-    (pick (eqb (getD c 1 0) 2) (Receipt (ticketIn o c) (receiptFor o (ticketIn o c) (getD c 6 0)))
-    (pick (eqb (getD c 1 0) 3) (Read (getD c 6 0))
-    (pick (eqb (getD c 1 0) 4) (Unknown (rangeIn c) (causeIn (getD c 7 0) (getD c 8 0) (getD c 9 0)))
-    (pick (eqb (getD c 1 0) 5) (Interrupted (rangeIn c))
-    (pick (eqb (getD c 1 0) 6) (Corruption (rangeIn c))
-    (pick (eqb (getD c 1 0) 7) (Io (rangeIn c) (opIn (getD c 7 0)) (getD c 9 0 % 2 ^ 32))
-    (pick (eqb (getD c 1 0) 8) (QueueFull (rangeIn c)) (poisonedBy (causeIn (getD c 7 0) (getD c 8 0) (getD c 9 0))))))))))
+    pick (eqb (getD c 1 0) 1) (Outcome.Written (ticketIn o c))
+    (pick (eqb (getD c 1 0) 2) (Outcome.Receipt (ticketIn o c) (receiptFor o (ticketIn o c) (getD c 6 0)))
+    (pick (eqb (getD c 1 0) 3) (Outcome.Read (getD c 6 0))
+    (pick (eqb (getD c 1 0) 4) (Outcome.Unknown (rangeIn c) (causeIn (getD c 7 0) (getD c 8 0) (getD c 9 0)))
+    (pick (eqb (getD c 1 0) 5) (Outcome.Interrupted (rangeIn c))
+    (pick (eqb (getD c 1 0) 6) (Outcome.Corruption (rangeIn c))
+    (pick (eqb (getD c 1 0) 7) (Outcome.Io (rangeIn c) (opIn (getD c 7 0)) (getD c 9 0 % 2 ^ 32))
+    (pick (eqb (getD c 1 0) 8) (Outcome.QueueFull (rangeIn c)) (Outcome.Poisoned (causeIn (getD c 7 0) (getD c 8 0) (getD c 9 0))))))))))
 
 -- a buffer, of three words
 unfoldable pub bufferIn : ℕ → ℕ → ℕ → Buffer
-bufferIn back b n = pick (flag back) (Back b n) Lost
+bufferIn back b n = pick (flag back) (Buffer.Back b n) Buffer.Lost
 
 unfoldable pub completionIn : Opening → List ℕ → Completion
 completionIn o c = record { tag = getD c 0 0; outcome = outcomeIn o c; buf = bufferIn (getD c 10 0) (getD c 11 0) (getD c 12 0) }
@@ -158,53 +174,64 @@ readyIn o d i (suc n) ws = completionIn o (take 16 (drop (16 * (i % d)) ws)) ∷
 unfoldable pub stateIn : Counts → Lent → State
 stateIn c l =
     let o = settingsIn (l .store) in
-    record { settings = o; lengths = lengthsIn (l .store); regions = regionsIn (o .regions) (drop 24 (l .store)) (drop 48 (l .store)); poison = poisonIn (l .store); counts = c; rows = take (o .depth) (l .rows); free = drop (c .live) (take (o .depth) (l .free)); ready = readyIn o (o .depth) (getD (l .ready) 0 0) (c .ready) (drop 1 (l .ready)); owners = map ownerIn (take (o .buffers) (l .owners)); pool = l .pool }
+    record {
+      settings = o;
+      lengths = lengthsIn (l .store);
+      regions = regionsIn (o .regions) (drop 24 (l .store)) (drop 48 (l .store));
+      poison = poisonIn (l .store);
+      counts = c;
+      rows = take (o .depth) (l .rows);
+      free = drop (c .live) (take (o .depth) (l .free));
+      ready = readyIn o (o .depth) (getD (l .ready) 0 0) (c .ready) (drop 1 (l .ready));
+      owners = map ownerIn (take (o .buffers) (l .owners));
+      pool = l .pool;
+    }
 
 -- ---- a completion as words
 
 unfoldable pub opWord : Op → ℕ
-opWord noOp = 0
-opWord readOp = 1
-opWord writeOp = 2
-opWord flushOp = 3
+opWord Op.None = 0
+opWord Op.Read = 1
+opWord Op.Write = 2
+opWord Op.Flush = 3
 
 unfoldable pub hasWord : OsError → ℕ
-hasWord noError = 0
-hasWord (Raw n) = 1
+hasWord OsError.None = 0
+hasWord (OsError.Raw n) = 1
 
 unfoldable pub rawWord : OsError → ℕ
-rawWord noError = 0
-rawWord (Raw n) = n
+rawWord OsError.None = 0
+rawWord (OsError.Raw n) = n
 
 -- words 1 to 9: the outcome, the region's id, start, end, the ticket's need, the receipt's need or the read's length, and a cause; what a case has
 -- no use for is 0
 unfoldable pub outcomeWords : Outcome → List ℕ
-outcomeWords (Written t) = 1 ∷ t .region ∷ t .start .0 ∷ t .end .0 ∷ t .need ∷ 0 ∷ 0 ∷ 0 ∷ 0 ∷ []
-outcomeWords (Receipt t d) = 2 ∷ t .region ∷ t .start .0 ∷ t .end .0 ∷ t .need ∷ d .need ∷ 0 ∷ 0 ∷ 0 ∷ []
-outcomeWords (Read n) = 3 ∷ 0 ∷ 0 ∷ 0 ∷ 0 ∷ n ∷ 0 ∷ 0 ∷ 0 ∷ []
-outcomeWords (Unknown r e) = 4 ∷ r .region ∷ r .start .0 ∷ r .end .0 ∷ 0 ∷ 0 ∷ opWord (e .op) ∷ hasWord (e .raw) ∷ rawWord (e .raw) ∷ []
-outcomeWords (Interrupted r) = 5 ∷ r .region ∷ r .start .0 ∷ r .end .0 ∷ 0 ∷ 0 ∷ 0 ∷ 0 ∷ 0 ∷ []
-outcomeWords (Corruption r) = 6 ∷ r .region ∷ r .start .0 ∷ r .end .0 ∷ 0 ∷ 0 ∷ 0 ∷ 0 ∷ 0 ∷ []
-outcomeWords (Io r op n) = 7 ∷ r .region ∷ r .start .0 ∷ r .end .0 ∷ 0 ∷ 0 ∷ opWord op ∷ 1 ∷ n ∷ []
-outcomeWords (QueueFull r) = 8 ∷ r .region ∷ r .start .0 ∷ r .end .0 ∷ 0 ∷ 0 ∷ 0 ∷ 0 ∷ 0 ∷ []
-outcomeWords (poisonedBy e) = 9 ∷ 0 ∷ 0 ∷ 0 ∷ 0 ∷ 0 ∷ opWord (e .op) ∷ hasWord (e .raw) ∷ rawWord (e .raw) ∷ []
+outcomeWords (Outcome.Written t) = 1 ∷ t .region ∷ t .start .0 ∷ t .end .0 ∷ t .need ∷ 0 ∷ 0 ∷ 0 ∷ 0 ∷ []
+outcomeWords (Outcome.Receipt t d) = 2 ∷ t .region ∷ t .start .0 ∷ t .end .0 ∷ t .need ∷ d .need ∷ 0 ∷ 0 ∷ 0 ∷ []
+outcomeWords (Outcome.Read n) = 3 ∷ 0 ∷ 0 ∷ 0 ∷ 0 ∷ n ∷ 0 ∷ 0 ∷ 0 ∷ []
+outcomeWords (Outcome.Unknown r e) = 4 ∷ r .region ∷ r .start .0 ∷ r .end .0 ∷ 0 ∷ 0 ∷ opWord (e .op) ∷ hasWord (e .raw) ∷ rawWord (e .raw) ∷ []
+outcomeWords (Outcome.Interrupted r) = 5 ∷ r .region ∷ r .start .0 ∷ r .end .0 ∷ 0 ∷ 0 ∷ 0 ∷ 0 ∷ 0 ∷ []
+outcomeWords (Outcome.Corruption r) = 6 ∷ r .region ∷ r .start .0 ∷ r .end .0 ∷ 0 ∷ 0 ∷ 0 ∷ 0 ∷ 0 ∷ []
+outcomeWords (Outcome.Io r op n) = 7 ∷ r .region ∷ r .start .0 ∷ r .end .0 ∷ 0 ∷ 0 ∷ opWord op ∷ 1 ∷ n ∷ []
+outcomeWords (Outcome.QueueFull r) = 8 ∷ r .region ∷ r .start .0 ∷ r .end .0 ∷ 0 ∷ 0 ∷ 0 ∷ 0 ∷ 0 ∷ []
+outcomeWords (Outcome.Poisoned e) = 9 ∷ 0 ∷ 0 ∷ 0 ∷ 0 ∷ 0 ∷ opWord (e .op) ∷ hasWord (e .raw) ∷ rawWord (e .raw) ∷ []
 
 -- words 10 to 12
 unfoldable pub bufferWords : Buffer → List ℕ
-bufferWords (Back b n) = 1 ∷ b ∷ n ∷ []
-bufferWords Lost = 0 ∷ 0 ∷ 0 ∷ []
+bufferWords (Buffer.Back b n) = 1 ∷ b ∷ n ∷ []
+bufferWords Buffer.Lost = 0 ∷ 0 ∷ 0 ∷ []
 
 -- word 13
 unfoldable pub generationWord : Outcome → ℕ
-generationWord (Written t) = t .generation
-generationWord (Receipt t d) = t .generation
-generationWord (Read n) = 0
-generationWord (Unknown r e) = 0
-generationWord (Interrupted r) = 0
-generationWord (Corruption r) = 0
-generationWord (Io r op n) = 0
-generationWord (QueueFull r) = 0
-generationWord (poisonedBy e) = 0
+generationWord (Outcome.Written t) = t .generation
+generationWord (Outcome.Receipt t d) = t .generation
+generationWord (Outcome.Read n) = 0
+generationWord (Outcome.Unknown r e) = 0
+generationWord (Outcome.Interrupted r) = 0
+generationWord (Outcome.Corruption r) = 0
+generationWord (Outcome.Io r op n) = 0
+generationWord (Outcome.QueueFull r) = 0
+generationWord (Outcome.Poisoned e) = 0
 
 unfoldable pub completionWords : Completion → List ℕ
 completionWords c = c .tag ∷ (outcomeWords (c .outcome) ++ (bufferWords (c .buf) ++ (generationWord (c .outcome) ∷ 0 ∷ 0 ∷ [])))
@@ -212,8 +239,8 @@ completionWords c = c .tag ∷ (outcomeWords (c .outcome) ++ (bufferWords (c .bu
 -- What makes a completion lie in words: an OS error has 32 bits, a ticket is the opening's and its generation has 32 bits, and a receipt is the one
 -- for its ticket.
 unfoldable pub ErrorFits : OsError → Type 0
-ErrorFits noError = Unit {0}
-ErrorFits (Raw n) = n < 2 ^ 32
+ErrorFits OsError.None = Unit {0}
+ErrorFits (OsError.Raw n) = n < 2 ^ 32
 
 pub record TicketOf (o : Opening) (t : WriteTicket) : Type 0 where
   pub volume : t .volume ≡ o .volume
@@ -221,15 +248,15 @@ pub record TicketOf (o : Opening) (t : WriteTicket) : Type 0 where
   pub generation : t .generation < 2 ^ 32
 
 unfoldable pub OutcomeFits : Opening → Outcome → Type 0
-OutcomeFits o (Written t) = TicketOf o t
-OutcomeFits o (Receipt t d) = TicketOf o t × (d ≡ receiptFor o t (d .need))
-OutcomeFits o (Read n) = Unit {0}
-OutcomeFits o (Unknown r e) = ErrorFits (e .raw)
-OutcomeFits o (Interrupted r) = Unit {0}
-OutcomeFits o (Corruption r) = Unit {0}
-OutcomeFits o (Io r op n) = n < 2 ^ 32
-OutcomeFits o (QueueFull r) = Unit {0}
-OutcomeFits o (poisonedBy e) = ErrorFits (e .raw)
+OutcomeFits o (Outcome.Written t) = TicketOf o t
+OutcomeFits o (Outcome.Receipt t d) = TicketOf o t × (d ≡ receiptFor o t (d .need))
+OutcomeFits o (Outcome.Read n) = Unit {0}
+OutcomeFits o (Outcome.Unknown r e) = ErrorFits (e .raw)
+OutcomeFits o (Outcome.Interrupted r) = Unit {0}
+OutcomeFits o (Outcome.Corruption r) = Unit {0}
+OutcomeFits o (Outcome.Io r op n) = n < 2 ^ 32
+OutcomeFits o (Outcome.QueueFull r) = Unit {0}
+OutcomeFits o (Outcome.Poisoned e) = ErrorFits (e .raw)
 
 pub record CompletionFits (o : Opening) (c : Completion) : Type 0 where
   pub outcome : OutcomeFits o (c .outcome)
@@ -287,7 +314,14 @@ ownersOpened buffers owners = over (replicate buffers 0) owners
 
 unfoldable pub openedLent : Opening → List ℕ → Lent → Lent
 openedLent o plan l =
-    record { rows = rowsOpened (o .depth) (l .rows); store = storeOpened o plan (lengthsOf l) (l .store); free = freeOpened (o .depth) (l .free); ready = readyOpened (l .ready); owners = ownersOpened (o .buffers) (l .owners); pool = l .pool }
+    record {
+      rows = rowsOpened (o .depth) (l .rows);
+      store = storeOpened o plan (lengthsOf l) (l .store);
+      free = freeOpened (o .depth) (l .free);
+      ready = readyOpened (l .ready);
+      owners = ownersOpened (o .buffers) (l .owners);
+      pool = l .pool;
+    }
 
 -- where a rule is broken nothing lent is changed
 unfoldable pub lentAfter : Opening → List ℕ → Lent → Lent

@@ -2,14 +2,15 @@
 use mathlib.Core.Bool.{Bool, true, false, _&&_, _||_, not}
 use mathlib.Core.List.{List, [], _∷_, _++_, map}
 use Prim.Native.Nat.{ℕ, zero, suc, _+_, _-_, _*_, _^_}
-use lib.ListN.{length, replicate}
+use lib.ListN.{length, getD, take, drop, replicate}
 use lib.Dec.{leb, ltb, eqb}
 use Rattle.layout.specs.Block.{isBlock, onBlock}
 use Rattle.regionmap.specs.Map.{Run, Map, ascends, Extent, extents, allApart, allWithin}
-use Rattle.domain.specs.declared.Poisoned.the-variants.{Never}
+use Rattle.regionmap.specs.Words.{mapIn}
+use Rattle.domain.specs.declared.Poisoned.the-variants as Poisoned
 use Rattle.model.specs.declared.Opening.{Opening}
 use Rattle.model.specs.declared.Lengths.{Lengths}
-use Rattle.model.specs.declared.Gate.the-variants.{Open}
+use Rattle.model.specs.declared.Gate.the-variants as Gate
 use Rattle.model.specs.State.{Region, State, Owner.host, freed, upFrom}
 
 -- a region as the opening is given it
@@ -17,6 +18,14 @@ pub record Plan : Type 0 where
   pub id : ℕ
   pub generation : ℕ
   pub map : Map
+
+-- it lies in the words that the host hands over: 70 a region
+unfoldable pub planIn : List ℕ → Plan
+planIn ws = record { id = getD ws 0 0; generation = getD ws 1 0; map = mapIn (drop 2 ws) }
+
+unfoldable pub plansIn : ℕ → List ℕ → List Plan
+plansIn zero ws = []
+plansIn (suc n) ws = planIn (take 70 ws) ∷ plansIn n (drop 70 ws)
 
 abbrev pub between : ℕ → ℕ → ℕ → Bool
 between lo hi x = leb lo x && leb x hi
@@ -123,7 +132,8 @@ readyWords d = 1 + 16 * d
 -- "and the row memory long enough"
 abbrev pub memoryRule : Opening → Lengths → Bool
 memoryRule o l =
-    leb (o .depth) (l .rows) && (leb (storeWords (o .regions)) (l .store) && (leb (o .depth) (l .free) && (leb (readyWords (o .depth)) (l .ready) && leb (o .buffers) (l .owners))))
+    leb (o .depth) (l .rows) && (leb (storeWords (o .regions)) (l .store)
+    && (leb (o .depth) (l .free) && (leb (readyWords (o .depth)) (l .ready) && leb (o .buffers) (l .owners))))
 
 unfoldable pub allTrue : List Bool → Bool
 allTrue [] = true
@@ -153,11 +163,30 @@ regionRules o ps = eachRegion (o .block) ps ∷ idsRule ps ∷ withinRule o ps �
 unfoldable pub admits : Opening → Bool → List Plan → Lengths → Bool
 admits o listed ps l = allTrue (numberRules o) && (allTrue (lengthRules o listed l) && allTrue (regionRules o ps))
 
+-- the plan lists as many regions as the opening says
+unfoldable pub listed : Opening → List ℕ → Bool
+listed o ws = leb (70 * o .regions) (length ws)
+
+-- all rules of an opening hold
+unfoldable pub opens : Opening → List ℕ → Lengths → Bool
+opens o plan l = admits o (listed o plan) (plansIn (o .regions) plan) l
+
 -- "At first gates are open, no region is read-only or forced"
 unfoldable pub atFirst : Plan → Region
-atFirst p = record { id = p .id; generation = p .generation; map = p .map; gate = Open; readOnly = false; forced = false }
+atFirst p = record { id = p .id; generation = p .generation; map = p .map; gate = Gate.Open; readOnly = false; forced = false }
 
 -- ".. nothing is poisoned and the host holds every buffer." "At first row 0 is on top, then 1". Generations and the sequence number start at 0.
 unfoldable pub opened : Opening → List Plan → Lengths → List ℕ → State
 opened o ps l pool =
-    record { settings = o; lengths = l; regions = map atFirst ps; poison = Never; counts = record { live = 0; ready = 0; submissions = 0 }; rows = replicate (o .depth) (freed 0); free = upFrom 0 (o .depth); ready = []; owners = replicate (o .buffers) host; pool = pool }
+    record {
+      settings = o;
+      lengths = l;
+      regions = map atFirst ps;
+      poison = Poisoned.Never;
+      counts = record { live = 0; ready = 0; submissions = 0 };
+      rows = replicate (o .depth) (freed 0);
+      free = upFrom 0 (o .depth);
+      ready = [];
+      owners = replicate (o .buffers) host;
+      pool = pool;
+    }

@@ -1,8 +1,17 @@
-// Whether an opening is admitted: all rules of document 01 hold and the row memory is long enough.
+// The opening (store-io's store.rs and optable.rs make what is opened; the rules are document 01's): whether it is admitted, which is where all
+// rules hold and the row memory is long enough, and what it writes.
+//
+// extents  the rules on card bytes
+// numbers  the rules on the opening's own numbers, and on lengths
+// plans    the rules on the regions that a plan lists
+// store    the table, written into what is lent
+pub mod extents;
 mod numbers;
+pub mod plans;
+pub mod store;
 
 ghost use mathlib.Core.Path.{_≡_};
-ghost use Rattle.model.specs.Memory.{opens};
+ghost use Rattle.model.specs.Opening.{opens};
 use layout::both;
 use model::Lengths;
 use model::Opening;
@@ -18,12 +27,12 @@ pub fn admits(o: Opening, plan: &[u64], l: Lengths) -> bool
         return false;
     }
     let regions = o.regions as usize;
-    if !plans::each_region(plan, regions, o.block) {
+    if !crate::plans::each_region(plan, regions, o.block) {
         return false;
     }
     let card = both(
-        extents::within_rule(plan, regions, o.card),
-        both(extents::apart_rule(plan, regions), true),
+        crate::extents::within_rule(plan, regions, o.card),
+        both(crate::extents::apart_rule(plan, regions), true),
     );
-    both(plans::ids_rule(plan, regions), card)
+    both(crate::plans::ids_rule(plan, regions), card)
 }

@@ -4,6 +4,8 @@ ghost use Rattle.model.specs.Opening.{between, allTrue, numberRules, lengthRule
 ghost use Prim.Native.Nat.{_*_, _≤_};
 ghost use lib.Dec.{leb};
 use layout::both;
+use memory::HEAD;
+use memory::REGION;
 use model::Lengths;
 use model::Opening;
 
@@ -44,8 +46,8 @@ pub(crate) fn lengths(o: Opening, l: Lengths, plan: u64) -> bool
 {
     let bytes = o.buffers * o.capacity;
     let ready = 1 + 16 * o.depth;
-    let listed = 70 * o.regions;
-    let store = 48 + listed;
+    let listed = REGION as u64 * o.regions;
+    let store = HEAD as u64 + listed;
     let owned = both(ready <= l.ready, o.buffers <= l.owners);
     let stacks = both(store <= l.store, both(o.depth <= l.free, owned));
     let rows = both(o.depth <= l.rows, stacks);

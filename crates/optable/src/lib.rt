@@ -1,4 +1,16 @@
-// The table's counts by value, its free stack's top and a row that awaits nothing (store-io's optable.rs: Table).
+// The table's rows and counts (store-io's optable.rs: Table). Here the counts by value, the free stack's top and a row that awaits nothing.
+//
+// counts   the counts, lent
+// lookup   the lookups
+// rows     the rows, lent
+// start    whether there is room, and the row and tag of an accepted operation
+// touched  what a call leaves of the row that it touches, and which row that is
+pub mod counts;
+pub mod lookup;
+pub mod rows;
+pub mod start;
+pub mod touched;
+
 ghost use mathlib.Core.Path.{_≡_};
 ghost use Prim.Native.Nat.{_-_, min};
 ghost use lib.ListN.{getD};
@@ -53,7 +65,8 @@ pub fn accepted(c: Counts, accepts: bool) -> Counts
     }
 }
 
-// What a call frees of the counts: nothing; a live row whose first piece was refused; a live row whose completion is ready; a completion that is taken.
+// What a call frees of the counts: nothing; a live row whose first piece was refused; a live row whose completion is ready; a completion that
+// is taken.
 pub enum Frees {
     Nothing,
     Rejected,

@@ -1,7 +1,7 @@
 // optrun: document 01's opening and a flush count of 0. It reads lines from standard input and answers each: `piece QTAG OFFSET COUNT`, `no` and the
-// number, what a taking took, or `bad` and the line's number. What a line says and how it is answered stands in the crates runner and running; here lines are read
-// until the input ends.
-use running::Running;
+// number, what a taking took, or `bad` and the line's number. What a line says and how it is answered stands in the crate runner; here
+// lines are read until the input ends.
+use runner::turn::Running;
 use submitter::Opened;
 
 // Reads lines until the input ends, and answers each. A loop has to end: it counts its turns down, from a number that no run uses up.
@@ -22,7 +22,7 @@ fn run(
         if from.ended {
             return;
         }
-        now = running::turn(now, &mut line, &mut chunk, store, free, ready, owners, pool);
+        now = runner::turn::turn(now, &mut line, &mut chunk, store, free, ready, owners, pool);
         turns -= 1;
     }
 }
@@ -33,9 +33,9 @@ fn main() {
     let mut ready = [0u64; 33];
     let mut owners = [0u64; 3];
     let mut pool = [0u8; 6144];
-    let plan = running::plan();
+    let plan = runner::turn::plan();
     let rows = [optable::freed_row(0); 64];
-    let opened = host::open_in(
+    let opened = submitter::host::open_in(
         runner::figures(),
         &plan,
         rows,

@@ -1,1 +1,2 @@
 pub mod Posix
+pub mod Transfer

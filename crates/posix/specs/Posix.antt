@@ -35,6 +35,7 @@ pub record TransferLaws : Type 0 where
   pub reads : (card : Card) (offset count i : ℕ) → i < count → getD (pread card offset count) i 0 ≡ card (offset + i)
   -- which bytes a transfer replaces, and that it changes no others
   pub replaces : (card : Card) (offset : ℕ) (bytes : List ℕ) (i : ℕ) → i < length bytes → pwrite card offset bytes (offset + i) ≡ getD bytes i 0
-  pub others : (card : Card) (offset : ℕ) (bytes : List ℕ) (x : ℕ) → ((i : ℕ) → i < length bytes → offset + i ≡ x → ⊥) → pwrite card offset bytes x ≡ card x
+  pub others : (card : Card) (offset : ℕ) (bytes : List ℕ) (x : ℕ) → ((i : ℕ) → i < length bytes → offset + i ≡ x → ⊥)
+      → pwrite card offset bytes x ≡ card x
   -- "any successful read() from each byte position in the file that was modified by that write shall return the data specified by the write()"
   pub given-back : (card : Card) (offset : ℕ) (bytes : List ℕ) → pread (pwrite card offset bytes) offset (length bytes) ≡ bytes

@@ -1,11 +1,16 @@
-// How the calls meet (store-io's queue_core.rs): what a call does to all but the rows and the counts, and what it leaves of the row that it touches.
-ghost use Rattle.called.specs.Called.{TouchesTo};
-use called::Touched;
+// How the calls meet (store-io's queue_core.rs): what a call does to all but the rows and the counts, and what it leaves of the row that it
+// touches. A call with other lengths than the opening's is turned away here.
+//
+// dispatch  which function a call goes to
+pub mod dispatch;
+
+ghost use Rattle.optable.specs.Called.{TouchesTo};
 use completion::Refusal;
 use model::Call;
 use model::Counts;
 use model::Lengths;
 use model::Row;
+use optable::touched::Touched;
 
 // One call, with the row that it touches given; 13 first.
 pub fn touch(
@@ -19,7 +24,9 @@ pub fn touch(
     owners: &mut [u64],
     pool: &mut [u8],
 ) -> Touched
-    ensures { λ r. ⌜ TouchesTo call row counts rows (now (store .entry)) (now (free .entry)) (now (ready .entry)) (now (owners .entry)) (now (pool .entry)) r (now (store .exit)) (now (free .exit)) (now (ready .exit)) (now (owners .exit)) (now (pool .exit)) ⌝ }
+    ensures { λ r. ⌜ TouchesTo call row counts rows
+        (now (store .entry)) (now (free .entry)) (now (ready .entry)) (now (owners .entry)) (now (pool .entry))
+        r (now (store .exit)) (now (free .exit)) (now (ready .exit)) (now (owners .exit)) (now (pool .exit)) ⌝ }
 {
     let l = Lengths {
         rows: rows as u64,
@@ -29,8 +36,8 @@ pub fn touch(
         owners: owners.len() as u64,
         pool: pool.len() as u64,
     };
-    if !lengths::same_lengths(store, l) {
-        return called::away(row, Refusal::Unfit);
+    if !memory::lengths::same_lengths(store, l) {
+        return optable::touched::away(row, Refusal::Unfit);
     }
-    dispatch::arm(call, row, counts, rows, store, free, ready, owners, pool)
+    crate::dispatch::arm(call, row, counts, rows, store, free, ready, owners, pool)
 }

@@ -1,1 +1,2 @@
--- Proofs about the functions of src/.
+-- How the first no of a list of questions is found.
+pub mod Groups

@@ -1,10 +1,17 @@
 // What a request is asked of its region (store-io's region.rs, PageRegion::check, and the same tests of Submitter::read_page and read).
+//
+// ready    contexts, and whether the store and the region may be written
+// receipt  the receipt of a durable write
+pub mod ready;
+pub mod receipt;
+
 ghost use mathlib.Core.Path.{_≡_};
 ghost use mathlib.Core.Bool.{_&&_};
 ghost use mathlib.Core.List.{[], _∷_};
 ghost use Prim.Native.Nat.{_+_, _^_};
 ghost use lib.Dec.{leb, ltb};
-ghost use Rattle.step.specs.Questions.{firstNo, volumeAndRegionMatch, generationMatches, lengthAbove0, aligned, withinData, writeOnBlock, readOnBlock};
+ghost use Rattle.step.specs.Questions.{firstNo, volumeAndRegionMatch, generationMatches, lengthAbove0, aligned, withinData};
+ghost use Rattle.step.specs.Questions.{writeOnBlock, readOnBlock};
 use completion::Context;
 use completion::Refusal;
 use model::Asked;
@@ -21,7 +28,7 @@ pub fn names(volume: u64, id: u64, generation: u64, c: Context, q: Request) -> A
     if q.region != id {
         return Asked::No(Refusal::ForeignPosition(c)); // another region
     }
-    ready::ask(q.generation == generation, Refusal::StaleGeneration(c))
+    crate::ready::ask(q.generation == generation, Refusal::StaleGeneration(c))
 }
 
 // Question 13 of a write: "`check` does not test the offset."
@@ -62,5 +69,5 @@ pub fn check(data: u64, on_block: bool, c: Context, q: Request) -> Asked
     if !on_block {
         return Asked::No(Refusal::Misaligned(c));
     }
-    ready::ask(within(q.offset, q.length, data), Refusal::OutOfBounds(c))
+    crate::ready::ask(within(q.offset, q.length, data), Refusal::OutOfBounds(c))
 }

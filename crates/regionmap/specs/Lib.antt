@@ -2,3 +2,5 @@
 pub mod Map
 pub mod Words
 pub mod Laws
+
+-- This crate states nothing of its own: its contracts cite the map.

@@ -1,5 +1,7 @@
 // Where a region's data lies on the card (store-io's regionmap.rs), as data: positions, offsets and what is found in a map. What a map is and how
 // it lies in lent words are definitions in specs/; the crates runs and pieces look things up in it, and they alone make an offset of a position.
+pub mod pieces;
+pub mod runs;
 
 // A position: it counts in a region.
 pub struct Position(pub u64);

@@ -1,6 +1,6 @@
-// replay: reads a trace from standard input, an opening and the calls made since, and prints the replies. What a line says and how it is answered stands in the
-// crates replaying and replayed; here lines are read until the input ends.
-use replayed::Running;
+// replay: reads a trace from standard input, an opening and the calls made since, and prints the replies. What a line says and how it is answered
+// stands in the crate session; here lines are read until the input ends.
+use session::turn::Running;
 
 // Reads lines until the program ends, and answers each. A loop has to end: it counts its turns down, from a number that no run uses up.
 fn run(
@@ -19,10 +19,10 @@ fn run(
     while turns > 0 {
         let stage = now.stage;
         let from = now.from;
-        if replayed::over(stage, from) {
+        if session::turn::over(stage, from) {
             return;
         }
-        now = replayed::turn(
+        now = session::turn::turn(
             now,
             &mut line,
             &mut chunk,
@@ -44,7 +44,7 @@ fn main() {
     let mut ready = [0u64; 1025];
     let mut owners = [0u64; 4096];
     let mut pool = [0u8; 1048576];
-    let r = replayed::begun(input::begin());
+    let r = session::turn::begun(input::begin());
     run(
         r,
         &mut plan,

@@ -49,8 +49,10 @@ pub record QueueLaws : Type 0 where
   pub publish-length : (d n : ℕ) (c : Completion) (ws : List ℕ) → length (published d n c ws) ≡ length ws
   pub publish-behind : (d n : ℕ) (c : Completion) (ws : List ℕ) → drop (1 + 16 * d) (published d n c ws) ≡ drop (1 + 16 * d) ws
   -- the oldest is the first of the queue
-  pub oldest : (o : Opening) (n : ℕ) (ws : List ℕ) → readyIn o (o .depth) (getD ws 0 0) (n + 1) (drop 1 ws) ≡ oldestIn o ws ∷ readyIn o (o .depth) (suc (getD ws 0 0)) n (drop 1 ws)
+  pub oldest : (o : Opening) (n : ℕ) (ws : List ℕ) → readyIn o (o .depth) (getD ws 0 0) (n + 1) (drop 1 ws)
+      ≡ oldestIn o ws ∷ readyIn o (o .depth) (suc (getD ws 0 0)) n (drop 1 ws)
   -- and once it is taken the others are what is left
-  pub pop : (o : Opening) (d n : ℕ) (ws : List ℕ) → Ring d ws → readyIn o d (getD (popped d ws) 0 0) n (drop 1 (popped d ws)) ≡ readyIn o d (suc (getD ws 0 0)) n (drop 1 ws)
+  pub pop : (o : Opening) (d n : ℕ) (ws : List ℕ) → Ring d ws
+      → readyIn o d (getD (popped d ws) 0 0) n (drop 1 (popped d ws)) ≡ readyIn o d (suc (getD ws 0 0)) n (drop 1 ws)
   pub pop-length : (d : ℕ) (ws : List ℕ) → length (popped d ws) ≡ length ws
   pub pop-behind : (d : ℕ) (ws : List ℕ) → drop (1 + 16 * d) (popped d ws) ≡ drop (1 + 16 * d) ws

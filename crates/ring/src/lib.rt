@@ -1,5 +1,15 @@
 // The ring in which the queue of ready completions lies, in words (store-io's optable.rs: Table's ready): word 0 is the place of the oldest, and the
 // completion at place i of a ring of depth places lies from word 1 + 16 i on (the model's Memory).
+//
+// decode   a completion, of its 16 words
+// encode   the 16 words of a completion
+// oldest   the oldest completion
+// publish  a completion becomes ready
+pub mod decode;
+pub mod encode;
+pub mod oldest;
+pub mod publish;
+
 ghost use mathlib.Core.Path.{_≡_};
 ghost use Rattle.ring.specs.Queue.{Ring, ringIn, placeIn, popped};
 

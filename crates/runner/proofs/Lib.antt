@@ -1,2 +1,3 @@
 -- Proofs about the functions of src/.
 pub mod Lines
+pub mod Turns

@@ -5,9 +5,9 @@ use Prim.Native.Nat.{ℕ}
 use Rattle.model.specs.declared.Counts.{Counts}
 use Rattle.model.specs.declared.Call.{Call}
 use Rattle.model.specs.Memory.{Lent}
-use Rattle.linecalls.specs.declared.Asks.{Asks}
-use Rattle.linecalls.specs.declared.Asks.the-variants.{Nothing, Call as calls, Other}
-use Rattle.texts.specs.Texts.{badText}
+use Rattle.parser.specs.declared.requests.Asks.{Asks}
+use Rattle.parser.specs.declared.requests.Asks.the-variants.{Nothing, Call as calls, Other}
+use Rattle.printer.specs.Texts.{badText}
 use Rattle.runner.specs.Runner.{Ran, Answers}
 
 module _ (asks : Asks) (n : ℕ) (c : Counts) (l : Lent) where

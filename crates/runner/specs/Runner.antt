@@ -1,4 +1,5 @@
--- How a line is answered: "The program `optrun` has this opening and a flush count of 0." "Requests name the opening's volume, region and generation."
+-- How a line is answered: "The program `optrun` has this opening and a flush count of 0." "Requests name the opening's volume, region and
+-- generation."
 use mathlib.Core.Path.{_≡_}
 use mathlib.Core.List.{List, []}
 use Prim.Native.Nat.{ℕ}
@@ -6,12 +7,12 @@ use Rattle.completion.specs.declared.Reply.{Reply}
 use Rattle.model.specs.declared.Counts.{Counts}
 use Rattle.model.specs.declared.Call.{Call}
 use Rattle.model.specs.Memory.{Lent}
-use Rattle.called.specs.Called.{CallsTo}
-use Rattle.linecalls.specs.declared.Named.{Named}
-use Rattle.linecalls.specs.declared.Asks.{Asks}
-use Rattle.linecalls.specs.declared.Asks.the-variants.{Nothing, Call as calls, Other}
-use Rattle.texts.specs.Texts.{badText}
-use Rattle.shorttexts.specs.Short.{shortText}
+use Rattle.optable.specs.Called.{CallsTo}
+use Rattle.parser.specs.declared.requests.Named.{Named}
+use Rattle.parser.specs.declared.requests.Asks.{Asks}
+use Rattle.parser.specs.declared.requests.Asks.the-variants.{Nothing, Call as calls, Other}
+use Rattle.printer.specs.Texts.{badText}
+use Rattle.printer.specs.Short.{shortText}
 
 -- "handle 0, with its own volume, id and generation"
 unfoldable pub figuresNamed : Named

@@ -1,19 +1,21 @@
 // A line of optrun is answered by a table: the call that it asks for, and the line that is printed. The table is that of document 01's figures, whose
 // requests "name the opening's volume, region and generation".
+pub mod turn;
+
 ghost use mathlib.Core.Path.{_≡_};
 ghost use Prim.Native.Nat.{_≤_};
 ghost use lib.ListN.{take};
-ghost use Rattle.called.specs.Called.{lentOf};
+ghost use Rattle.optable.specs.Called.{lentOf};
 ghost use Rattle.runner.specs.Runner.{figuresNamed, Ran, Answers};
 ghost use Rattle.step.specs.Figures.{figuresOpening};
 use completion::Reply;
-use host::CalledIn;
-use linecalls::Asks;
-use linecalls::Named;
 use model::Call;
 use model::Counts;
 use model::Opening;
 use model::Row;
+use parser::requests::Asks;
+use parser::requests::Named;
+use submitter::host::CalledIn;
 
 // The rows, the counts and how many bytes are to be printed.
 pub struct Answered {
@@ -66,17 +68,20 @@ fn run(
     pool: &mut [u8],
     out: &mut [u8; 128],
 ) -> Answered
-    ensures { λ r. ⌜ Ran call counts (lentOf rows (now (store .entry)) (now (free .entry)) (now (ready .entry)) (now (owners .entry)) (now (pool .entry))) (r .counts) (lentOf (r .rows) (now (store .exit)) (now (free .exit)) (now (ready .exit)) (now (owners .exit)) (now (pool .exit))) (take (r .printed) (now (out .exit))) ⌝ }
+    ensures { λ r. ⌜ Ran call counts
+        (lentOf rows (now (store .entry)) (now (free .entry)) (now (ready .entry)) (now (owners .entry)) (now (pool .entry))) (r .counts)
+        (lentOf (r .rows) (now (store .exit)) (now (free .exit)) (now (ready .exit)) (now (owners .exit)) (now (pool .exit)))
+        (take (r .printed) (now (out .exit))) ⌝ }
     ensures bounded { λ r. ⌜ r .printed ≤ 128 ⌝ }
 {
-    let called = host::call_in(call, counts, rows, store, free, ready, owners, pool);
+    let called = submitter::host::call_in(call, counts, rows, store, free, ready, owners, pool);
     let reply = called.reply;
     let held = called.rows;
     let counted = called.counts;
     Answered {
         rows: held,
         counts: counted,
-        printed: shorttexts::short_text(reply, out),
+        printed: printer::short::short_text(reply, out),
     }
 }
 
@@ -93,7 +98,10 @@ pub fn answer(
     pool: &mut [u8],
     out: &mut [u8; 128],
 ) -> Answered
-    ensures { λ r. ⌜ Answers asks number counts (lentOf rows (now (store .entry)) (now (free .entry)) (now (ready .entry)) (now (owners .entry)) (now (pool .entry))) (r .counts) (lentOf (r .rows) (now (store .exit)) (now (free .exit)) (now (ready .exit)) (now (owners .exit)) (now (pool .exit))) (take (r .printed) (now (out .exit))) ⌝ }
+    ensures { λ r. ⌜ Answers asks number counts
+        (lentOf rows (now (store .entry)) (now (free .entry)) (now (ready .entry)) (now (owners .entry)) (now (pool .entry))) (r .counts)
+        (lentOf (r .rows) (now (store .exit)) (now (free .exit)) (now (ready .exit)) (now (owners .exit)) (now (pool .exit)))
+        (take (r .printed) (now (out .exit))) ⌝ }
     ensures bounded { λ r. ⌜ r .printed ≤ 128 ⌝ }
 {
     match asks {
@@ -105,7 +113,7 @@ pub fn answer(
         Asks::Other => Answered {
             rows,
             counts,
-            printed: texts::bad_text(number, out),
+            printed: printer::lines::bad_text(number, out),
         },
         Asks::Call(call) => run(call, counts, rows, store, free, ready, owners, pool, out),
     }

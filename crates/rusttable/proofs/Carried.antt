@@ -40,7 +40,7 @@ Awaited k (AwaitsFlush tk) = Page (tk .start) (tk .end) ≡ k
 unfoldable pub Ended : Kind → Fate → Type 0
 Ended k (away f) = ⊥
 Ended k (awaits a bytes) = Awaited k a
-Ended k (ends o b bytes cause) = Unit {0}
+Ended k (ends ending) = Unit {0}
 Ended k (rejected e b bytes) = ⊥
 
 module _ (o : Opening) (g : Plan) (forced : Bool) (first : Poisoned) (r : Row) (sp : Split) (bytes : List ℕ) (answer : Answer) (back : Bool) (n : ℕ) where
@@ -60,7 +60,7 @@ module _ (s : State) (n : ℕ) (row : Row) (T : Table) (t : ℕ) (r : RustRow) (
   carried-put k (awaits Nothing bytes) e = absurd e
   carried-put k (awaits (Piece k′ sp) bytes) e = absurd e
   carried-put k (awaits (AwaitsFlush tk) bytes) e = rw (put-twice T t r live now has (withHeld (operationOf row k) (some (record { buf = some (record { number = row .buffer; len = tk .end .0 - tk .start .0; bytes = bytes }); ticket = tk })))) refl
-  carried-put k (ends o b bytes cause) e = rw (put-released T t r live now has (bufAs b bytes) _ tag) refl
+  carried-put k (ends ending) e = rw (put-released T t r live now has (bufAs (ending .buffer) (ending .bytes)) _ tag) refl
   carried-put k (rejected e′ b bytes) e = absurd e
 
 module _ (s : State) (i : Sound s) (n t : ℕ) (found : names (rowAt s (rowOf t)) t ≡ true) where
@@ -80,8 +80,8 @@ module _ (s : State) (i : Sound s) (n t : ℕ) (found : names (rowAt s (rowOf t)
       state = ap (withTable (submitterOf s n)) (onward-put s i t found live there bytes (same-length bytes (fits .1)) (AwaitsFlush tk) _ (rw (own-onward s i t found live there bytes (same-length bytes (fits .1)) (AwaitsFlush tk) (operationOf row k), e) refl));
       reply = refl;
     }
-    carried-settled k (ends o b bytes cause) fits e = record {
-      state = λ j. record { store = record { settings = s .settings; regions = s .regions; poison = poisonWith (s .poison) cause; issued = n }; table = ends-released s i t found live there bytes (same-length bytes (fits .1)) tag o b (fits .0) cause j };
+    carried-settled k (ends ending) fits e = record {
+      state = λ j. record { store = record { settings = s .settings; regions = s .regions; poison = poisonWith (s .poison) (ending .cause); issued = n }; table = ends-released s i t found live there (ending .bytes) (same-length (ending .bytes) (fits .1)) tag (ending .outcome) (ending .buffer) (fits .0) (ending .cause) j };
       reply = refl;
     }
     carried-settled k (rejected e′ b bytes) fits e = absurd e

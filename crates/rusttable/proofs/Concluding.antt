@@ -121,7 +121,7 @@ module _ (s : State) (n : ℕ) (row : Row) (T : Table) (t : ℕ) where
   unfoldable pub carried : Kind → Fate → Submitter × Finish
   carried k (away f) = (x, Finished)
   carried k (awaits a bytes) = carriedFlush k a bytes
-  carried k (ends o b bytes cause) = (record { store = poisoned cause; table = release T t (bufAs b bytes) (outcomeOf o) }, Finished)
+  carried k (ends ending) = (record { store = poisoned (ending .cause); table = release T t (bufAs (ending .buffer) (ending .bytes)) (outcomeOf (ending .outcome)) }, Finished)
   carried k (rejected e b bytes) = (x, Finished)
 
   -- the end of an operation of this kind whose first arrangement is back, or whose buffer is lost
@@ -183,12 +183,12 @@ module _ (s : State) (n : ℕ) (row : Row) (T : Table) (t : ℕ) where
       flush-kept = let long : sp .total ≡ b .0 - a .0 = omega arith in rw long refl
 
       -- poisoned, or with a receipt
-      receipt-given : (p : Poison) → handBack x t (some here) (receipted (storeOf s n) (record { ticket = its-ticket; receipt = none }) p) ≡ carried (Page a b) (ends (unflushed (s .settings) p its-ticket) (Back (row .buffer) (sp .total)) bytes none)
+      receipt-given : (p : Poison) → handBack x t (some here) (receipted (storeOf s n) (record { ticket = its-ticket; receipt = none }) p) ≡ carried (Page a b) (ends (record { outcome = unflushed (s .settings) p its-ticket; buffer = Back (row .buffer) (sp .total); bytes = bytes; cause = none }))
       unfolding handBack receipted unflushed shortened readLen given carried outcomeOf bufAs withTable poisonWith storeOf «durable_receipt»
       receipt-given Never = refl
       receipt-given (First cause) = refl
 
-      plain : handBack x t (some here) wrote ≡ carried (Page a b) (ends (endsWritten its-ticket) (Back (row .buffer) (sp .total)) bytes none)
+      plain : handBack x t (some here) wrote ≡ carried (Page a b) (ends (record { outcome = endsWritten its-ticket; buffer = Back (row .buffer) (sp .total); bytes = bytes; cause = none }))
       unfolding handBack shortened readLen given carried outcomeOf bufAs withTable poisonWith storeOf
       plain = refl
 
@@ -202,7 +202,7 @@ module _ (s : State) (n : ℕ) (row : Row) (T : Table) (t : ℕ) where
 
     unwritten-ends : (buf : Buffer) (bytes : List ℕ) (answer : Answer)
         → concluded (failed (errorOf answer)) t (bufAs buf bytes) (operationOf row (Page a b)) (Err (unknown (storeOf s n) writeOp (errorOf answer) («ctx_range» g a b) .1))
-        ≡ carried (Page a b) (ends (endsUnknown (rangeOf (planOf g) (Page a b)) (causeOf answer)) buf bytes (some (causeOf answer)))
+        ≡ carried (Page a b) (ends (record { outcome = endsUnknown (rangeOf (planOf g) (Page a b)) (causeOf answer); buffer = buf; bytes = bytes; cause = some (causeOf answer) }))
     unfolding unknown carried outcomeOf withStore withTable poisonWith storeOf causeOf contextOf «ctx_range» rangeOf planOf firstOf lastOf written handBack shortened readLen given
     unwritten-ends buf bytes answer = unwritten (failed (errorOf answer)) t (bufAs buf bytes) (operationOf row (Page a b)) (Err (unknown (storeOf s n) writeOp (errorOf answer) («ctx_range» g a b) .1)) refl
 
@@ -234,7 +234,7 @@ module _ (s : State) (n : ℕ) (row : Row) (T : Table) (t : ℕ) where
           → pick w (concluded x t (back-in-order back sp bytes) (operationOf row (Page a b)) wrote)
           (concluded (failed (errorOf answer)) t (back-in-order back sp bytes) (operationOf row (Page a b)) (Err (unknown (storeOf s n) writeOp (errorOf answer) («ctx_range» g a b) .1)))
           ≡ carried (Page a b) (pick w (writtenAs (s .settings) (g .forced) (s .poison) (row .durable) its-ticket (bufferAs back (row .buffer) (sp .total)) (turnedBack back sp bytes))
-          (ends (endsUnknown (rangeOf (planOf g) (Page a b)) (causeOf answer)) (bufferAs back (row .buffer) (sp .total)) (turnedBack back sp bytes) (some (causeOf answer))))
+          (ends (record { outcome = endsUnknown (rangeOf (planOf g) (Page a b)) (causeOf answer); buffer = bufferAs back (row .buffer) (sp .total); bytes = turnedBack back sp bytes; cause = some (causeOf answer) })))
       unfolding pick bufferAs bufAs turnedBack
       by-written answer true true e = written-ends sp (turned (sp .total) (sp .total - sp .done) bytes) fits
       by-written answer false true e = absurd (not-both e (lost-unwritten sp answer))

@@ -14,18 +14,16 @@ use Rattle.layout.specs.Block.{onBlock}
 use Rattle.regionmap.specs.Map.{spanFrom, runOf, runEnd, runLeft, place, pieceSize}
 use Rattle.regionmap.specs.Words.{runsIn, mapIn}
 use Rattle.completion.specs.Numbers.{number}
-use Rattle.model.specs.State.{State, freed, upFrom}
-use Rattle.model.specs.Opening.{atFirst, opened}
-use Rattle.model.specs.Memory.{planIn, plansIn, receiptFor}
+use Rattle.model.specs.State.{State, freed, upFrom, receiptFor}
+use Rattle.model.specs.Opening.{atFirst, opened, planIn, plansIn}
 use Rattle.step.specs.Questions.{ask, firstNo, handleNamesRegion, bufferInPool, isHost, heldAt, hostHoldsBuffer, roomInTable, lifetimeLeft, gateOpen, storeWritable, unpoisoned}
 use Rattle.step.specs.Questions.{regionWritable, volumeAndRegionMatch, generationMatches, lengthAbove0, writeOnBlock, aligned, withinData, regionAt}
 use Rattle.step.specs.Questions.{writeQuestions}
-use Rattle.step.specs.Rules.{opOf, firstOf, lastOf, rangeOf, pieceOf, pieceLength, bufferAs, errorOf, turnedBack, isWritten, causeOf, failedRead, readOutcome, readLength, ticketOf, unflushed, writtenAs, lastPiece}
-use Rattle.step.specs.Rules.{abovePiece, isRefusal, firstRefused, isWhole, goesOn, splitAfter, pieceAnswered, answerRules, rules}
+use Rattle.step.specs.Rules.{opOf, firstOf, lastOf, rangeOf, pieceOf, pieceLength, bufferAs, errorOf, turnedBack, isWritten, causeOf, failedRead, readOutcome, readLength, ticketOf, unflushed, writtenAs, lastPiece, abovePiece, isRefusal, firstRefused, isWhole, goesOn, splitAfter, pieceAnswered, answerRules, rules}
 use Rattle.step.specs.Step.{durableAs, claimedBy, oneMore, accepted, rowOf, generationOf, isLive, names, bytesAt, raised, awaitsNow, oneLess, keptBy, poisonWith, going, freeing, planOf, asksFor}
 use Rattle.step.specs.Step.{completionOf, rejection, settled, fateOf, underTag}
 use Rattle.step.specs.Step.{queueTag, topOf, rowAt, verdictOf, writeVerdict, submitted, taken, eqLengths, called, step}
-use Rattle.step.specs.Laws.{Made.calls, Event, leave, done, next, replyTo}
+use Rattle.step.specs.Run.{Made.calls, Event, leave, done, next, replyTo}
 use Rattle.step.specs.Alone.{tagGiven}
 use Rattle.step.specs.Lists.{HostMay}
 use Rattle.step.specs.Figures.{figuresOpening, figuresPlan, figuresLengths, figuresTable, asking, replyAfter, tableAfter, answers}

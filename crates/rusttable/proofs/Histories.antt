@@ -28,10 +28,9 @@ use Rattle.model.specs.Opening.{opened}
 use Rattle.step.specs.Questions.{regionAt}
 use Rattle.step.specs.Step.{rowAt, rowOf, taken, withRegions, withPoison, marked, withGate, withReadOnly, withForced, called, look, lookedUp, step}
 use Rattle.step.specs.Sound.{Sound}
-use Rattle.step.specs.Laws.{Made, Made.calls, Made.looks, Event, leave, done, next, replyTo, run}
+use Rattle.step.specs.Run.{Made, Made.calls, Made.looks, Event, leave, done, next, replyTo, run, plansOf, openedBy}
 use Rattle.step.specs.Alone.{tagGiven}
 use Rattle.step.specs.Lists.{HostMay}
-use Rattle.step.specs.Demand3.{plansOf, openedBy}
 use Rattle.step.proofs.Picked.{by-pick}
 use Rattle.step.proofs.AloneTags.{clash}
 use Rattle.step.proofs.Histories.{leaves}

@@ -50,7 +50,7 @@ module _ (s : State) (i : Sound s) (t : ℕ) (found : names (rowAt s (rowOf t)) 
   fate-later : (u : ℕ) (f : Fate) → FateFits s row f → tagGiven (settled s t row f .1) ≡ some u → isLater (rowAt (settled s t row f .0) (rowOf u) .awaits) ≡ true
   unfolding settled Fitting tagGiven asksFor isLater going awaitsNow
   fate-later u (away f) fits e = clash (cc)
-  fate-later u (ends o b bytes cause) fits e = clash (cc)
+  fate-later u (ends ending) fits e = clash (cc)
   fate-later u (rejected x b bytes) fits e = absurd (none-issued _ (row .awaits) x b u e)
   fate-later u (awaits Nothing bytes) fits e = clash (cc)
   fate-later u (awaits (Flush ticket) bytes) fits e = clash (cc)

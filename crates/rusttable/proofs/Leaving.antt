@@ -27,14 +27,13 @@ use Rattle.model.specs.declared.Awaits.the-variants.{Nothing, Piece, Flush as A
 use Rattle.model.specs.declared.Row.{Row}
 use Rattle.model.specs.declared.Call.{Call}
 use Rattle.model.specs.declared.Call.the-variants.{Write, ReadPage, Answer as Answers, Flushed as FlushedCall, Take, SetGate, SetReadOnly, SetForced, ReportPoison}
-use Rattle.model.specs.State.{Region, Owner, Owner.host, Owner.table, Owner.lost, State, freed, awaiting}
+use Rattle.model.specs.State.{Region, Owner, Owner.host, Owner.table, Owner.lost, State, freed, awaiting, receiptFor}
 use Rattle.model.specs.Opening.{Plan, opened}
-use Rattle.model.specs.Memory.{receiptFor}
 use Rattle.step.specs.Questions.{isHost, heldAt, regionAt}
 use Rattle.step.specs.Rules.{firstOf, pieceOf, pieceLength}
 use Rattle.step.specs.Step.{rowAt, rowOf, isLive, names, bytesAt, planOf, withRegions, withPoison, marked, withGate, withReadOnly, withForced, eqLengths, called, step}
 use Rattle.step.specs.Sound.{rowsHold, holds, readyHold, tableHas, Sound}
-use Rattle.step.specs.Laws.{leave}
+use Rattle.step.specs.Run.{leave}
 use Rattle.step.specs.Lists.{LooseIn, HostMay, loose, planAt}
 use Rattle.step.proofs.Picked.{by-pick}
 use Rattle.step.proofs.Places.{within}

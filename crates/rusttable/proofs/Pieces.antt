@@ -19,9 +19,9 @@ use Rattle.model.specs.declared.Row.{Row}
 use Rattle.model.specs.State.{State}
 use Rattle.model.specs.Opening.{Plan}
 use Rattle.step.specs.Questions.{regionAt}
-use Rattle.step.specs.Rules.{firstOf, lastOf, pieceOf, pieceLength, bufferAs, turnedBack, lastPiece}
+use Rattle.step.specs.Rules.{firstOf, lastOf, pieceOf, pieceLength, bufferAs, turnedBack, lastPiece, rangeStart, rangeEnd}
 use Rattle.step.specs.Step.{rowAt, rowOf, names, bytesAt, planOf}
-use Rattle.step.specs.Sound.{SplitFits, rangeStart, rangeEnd, InTable, Sound}
+use Rattle.step.specs.Sound.{SplitFits, InTable, Sound}
 use Rattle.step.proofs.Named.{named-live, named-below}
 use Rattle.step.proofs.Buffers.{bytes-length}
 use Rattle.rusttable.specs.Table.{Live, Table}

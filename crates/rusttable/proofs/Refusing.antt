@@ -20,7 +20,7 @@ use Rattle.model.specs.declared.Call.the-variants.{Write, ReadPage, Answer as A
 use Rattle.model.specs.State.{State}
 use Rattle.step.specs.Rules.{isRefusal}
 use Rattle.step.specs.Step.{eqLengths, called, step}
-use Rattle.step.specs.Laws.{Made, Made.calls, Made.looks, Event, leave, done, next, replyTo}
+use Rattle.step.specs.Run.{Made, Made.calls, Made.looks, Event, leave, done, next, replyTo}
 use Rattle.step.proofs.AloneTags.{clash}
 use Rattle.step.proofs.Histories.{done-stays}
 use Rattle.step.specs.Alone.{tagGiven}

@@ -10,48 +10,54 @@ use Rattle.regionmap.specs.declared.Offset.{Offset}
 use Rattle.regionmap.specs.Map.{Map, runOf}
 use Rattle.domain.specs.declared.Op.{Op}
 use Rattle.domain.specs.declared.OsError.{OsError}
-use Rattle.domain.specs.declared.OsError.the-variants.{None as noError, Raw}
+use Rattle.domain.specs.declared.OsError.the-variants as OsError
 use Rattle.platform.specs.declared.Answer.{Answer}
-use Rattle.platform.specs.declared.Answer.the-variants.{Count, Error as Failed, Refused, RefusedWith}
+use Rattle.platform.specs.declared.Answer.the-variants as Answer
 use Rattle.platform.specs.declared.Flushed.{Flushed as FlushResult}
-use Rattle.platform.specs.declared.Flushed.the-variants.{Need, Unknown as unsure, Poisoned as failedBy}
+use Rattle.platform.specs.declared.Flushed.the-variants as Flushed
 use Rattle.completion.specs.declared.WriteTicket.{WriteTicket}
 use Rattle.completion.specs.declared.Range.{Range}
 use Rattle.completion.specs.declared.Context.{Context}
-use Rattle.completion.specs.declared.Context.the-variants.{None as bare, Region as withRegion, Range as withRange}
+use Rattle.completion.specs.declared.Context.the-variants as Context
 use Rattle.completion.specs.declared.Refusal.{Refusal}
-use Rattle.completion.specs.declared.Refusal.the-variants.{ForeignPosition as no1, ForeignBuffer as no2, QueueFull as no3, StaleGeneration as no4, NotReady as no5, ReadOnly as no6, Poisoned as no7, Empty as no8, Misaligned as no9, OutOfBounds as no10, NotHeld, LifetimeSpent, Unfit, UnknownTag, NotAwaited, AbovePiece}
+use Rattle.completion.specs.declared.Refusal.the-variants as Refusal
 use Rattle.completion.specs.declared.Outcome.{Outcome}
-use Rattle.completion.specs.declared.Outcome.the-variants.{Written as endsWritten, Receipt as endsReceipt, Read as endsRead, Unknown as endsUnknown, Interrupted as endsInterrupted, Corruption as endsCorruption, Io as endsIo, QueueFull as endsQueueFull, Poisoned as endsPoisoned}
+use Rattle.completion.specs.declared.Outcome.the-variants as Outcome
 use Rattle.completion.specs.declared.Buffer.{Buffer}
-use Rattle.completion.specs.declared.Buffer.the-variants.{Back, Lost}
+use Rattle.completion.specs.declared.Buffer.the-variants as Buffer
 use Rattle.completion.specs.declared.Completion.{Completion}
 use Rattle.completion.specs.declared.Reply.{Reply}
-use Rattle.completion.specs.declared.Reply.the-variants.{Piece as piece, No as turnedAway, Rejected as rejectedFirst, Done as isDone, Flush as flushAsked, Took, None as noneReady, Ok as isOk, Writes, Mark}
+use Rattle.completion.specs.declared.Reply.the-variants as Reply
 use Rattle.model.specs.declared.Opening.{Opening}
 use Rattle.model.specs.declared.Lengths.{Lengths}
 use Rattle.model.specs.declared.Kind.{Kind}
-use Rattle.model.specs.declared.Kind.the-variants.{Page}
+use Rattle.model.specs.declared.Kind.the-variants as Kind
 use Rattle.model.specs.declared.Split.{Split}
 use Rattle.model.specs.declared.Awaits.{Awaits}
-use Rattle.model.specs.declared.Awaits.the-variants.{Nothing, Piece, Flush as AwaitsFlush}
+use Rattle.model.specs.declared.Awaits.the-variants as Awaits
 use Rattle.model.specs.declared.Row.{Row}
 use Rattle.model.specs.declared.Request.{Request}
 use Rattle.model.specs.declared.Call.{Call}
-use Rattle.model.specs.declared.Call.the-variants.{Write, ReadPage, Answer as Answers, Flushed as FlushedCall, Take, SetGate, SetReadOnly, SetForced, ReportPoison}
+use Rattle.model.specs.declared.Call.the-variants as Call
 use Rattle.model.specs.State.{State}
 use Rattle.model.specs.Opening.{Plan, opened}
 use Rattle.step.specs.Questions.{regionAt}
 use Rattle.step.specs.Rules.{firstOf, pieceLength}
 use Rattle.step.specs.Step.{rowAt, rowOf, names, bytesAt, planOf, writesIn, step}
 use Rattle.step.specs.Sound.{Sound}
-use Rattle.step.specs.Laws.{leave}
+use Rattle.step.specs.Run.{leave}
 use Rattle.step.specs.Lists.{HostMay}
-use Rattle.rusttable.specs.Table.{Result.Ok, Result.Err, IoBuf, RawError, RawResult, ErrorContext, Error, Flushed, Live, Table, Finish, Store, Submitter, RegionPos, Req, Issued}
+use Rattle.rusttable.specs.Table.{Result.Ok, Result.Err, IoBuf, RawError, RawResult, ErrorContext, Error, Flushed, Live, Table, Finish, Store}
+use Rattle.rusttable.specs.Table.{Submitter, RegionPos, Req, Issued}
 use Rattle.rusttable.specs.Table.{Outcome as RustOutcome, Completion as RustCompletion, Row as RustRow}
-use Rattle.rusttable.specs.Table.{NotWrittenCause.ForeignPosition, NotWrittenCause.ForeignBuffer, NotWrittenCause.QueueFull, NotWrittenCause.StaleGeneration, NotWrittenCause.NotReady, NotWrittenCause.ReadOnly, NotWrittenCause.Empty, NotWrittenCause.Misaligned, NotWrittenCause.OutOfBounds, NotWrittenCause.Interrupted}
-use Rattle.rusttable.specs.Table.{Error.NotWritten, Error.Poisoned, Error.Io, Error.DurabilityUnknown, Error.Corruption, Done.Wrote, Done.Read, Finish.Finished, Finish.Flush, Finish.Next, Req.WriteAt, Req.ReadAt, Submitted.Taken, Submitted.Refused as QueueRefuses, Issued.Submit, Issued.Reject}
-use Rattle.rusttable.specs.Functions.{«receipt_for», «durable_receipt», indexIn, returned, finish as rustFinish, «refused_next», abort as rustAbort, flushed as rustFlushed, next, Popped, write as rustWrite, «read_page», new as rustNew}
+use Rattle.rusttable.specs.Table.{NotWrittenCause.ForeignPosition, NotWrittenCause.ForeignBuffer, NotWrittenCause.QueueFull}
+use Rattle.rusttable.specs.Table.{NotWrittenCause.StaleGeneration, NotWrittenCause.NotReady, NotWrittenCause.ReadOnly, NotWrittenCause.Empty}
+use Rattle.rusttable.specs.Table.{NotWrittenCause.Misaligned, NotWrittenCause.OutOfBounds, NotWrittenCause.Interrupted}
+use Rattle.rusttable.specs.Table.{Error.NotWritten, Error.Poisoned, Error.Io, Error.DurabilityUnknown, Error.Corruption, Done.Wrote, Done.Read}
+use Rattle.rusttable.specs.Table.{Finish.Finished, Finish.Flush, Finish.Next, Req.WriteAt, Req.ReadAt, Submitted.Taken}
+use Rattle.rusttable.specs.Table.{Submitted.Refused as QueueRefuses, Issued.Submit, Issued.Reject}
+use Rattle.rusttable.specs.Functions.{«receipt_for», «durable_receipt», indexIn, returned, finish as rustFinish, «refused_next»}
+use Rattle.rusttable.specs.Functions.{abort as rustAbort, flushed as rustFlushed, next, Popped, write as rustWrite, «read_page», new as rustNew}
 use Rattle.rusttable.specs.Domain.{InDomain}
 
 -- ---- the state as the Rust's
@@ -62,8 +68,8 @@ bufOf s b n = record { number = b; len = n; bytes = bytesAt s b }
 
 -- a buffer, if it came back
 unfoldable pub backOf : State → Buffer → Option IoBuf
-backOf s (Back b n) = some (bufOf s b n)
-backOf s Lost = none
+backOf s (Buffer.Back b n) = some (bufOf s b n)
+backOf s Buffer.Lost = none
 
 -- "the region and the operation's whole range"
 unfoldable pub contextOf : Range → ErrorContext
@@ -71,15 +77,15 @@ contextOf r = record { region = some (r .region); range = some (record { start =
 
 -- an outcome as `Result<Done, Error>`
 unfoldable pub outcomeOf : Outcome → RustOutcome
-outcomeOf (endsWritten t) = Ok (Wrote (record { ticket = t; receipt = none }))
-outcomeOf (endsReceipt t d) = Ok (Wrote (record { ticket = t; receipt = some d }))
-outcomeOf (endsRead n) = Ok (Read n)
-outcomeOf (endsUnknown r cause) = Err (DurabilityUnknown (cause .op) (cause .raw) (contextOf r))
-outcomeOf (endsInterrupted r) = Err (NotWritten Interrupted (contextOf r))
-outcomeOf (endsCorruption r) = Err (Corruption (contextOf r))
-outcomeOf (endsIo r op n) = Err (Io op n (contextOf r))
-outcomeOf (endsQueueFull r) = Err (NotWritten QueueFull (contextOf r))
-outcomeOf (endsPoisoned cause) = Err (Poisoned cause)
+outcomeOf (Outcome.Written t) = Ok (Wrote (record { ticket = t; receipt = none }))
+outcomeOf (Outcome.Receipt t d) = Ok (Wrote (record { ticket = t; receipt = some d }))
+outcomeOf (Outcome.Read n) = Ok (Read n)
+outcomeOf (Outcome.Unknown r cause) = Err (DurabilityUnknown (cause .op) (cause .raw) (contextOf r))
+outcomeOf (Outcome.Interrupted r) = Err (NotWritten Interrupted (contextOf r))
+outcomeOf (Outcome.Corruption r) = Err (Corruption (contextOf r))
+outcomeOf (Outcome.Io r op n) = Err (Io op n (contextOf r))
+outcomeOf (Outcome.QueueFull r) = Err (NotWritten QueueFull (contextOf r))
+outcomeOf (Outcome.Poisoned cause) = Err (Poisoned cause)
 
 unfoldable pub completionAs : State → Completion → RustCompletion
 completionAs s c = record { tag = c .tag; buf = backOf s (c .buf); outcome = outcomeOf (c .outcome) }
@@ -90,17 +96,40 @@ splitOf g k sp = pick (eqb (pieceLength g k sp) (sp .total)) none (some sp)
 
 -- `Row::live`: a row that awaits a piece has handed its buffer to the queue; one that awaits a flush holds it, at its whole length
 unfoldable pub liveOf : State → Row → Awaits → Option Live
-liveOf s r Nothing = none
-liveOf s r (Piece k sp) =
-    some (record { tag = r .tag; seq = r .seq; kind = k; handle = r .handle; durable = r .durable; held = none; split = splitOf (planOf (regionAt s (r .handle))) k sp })
-liveOf s r (AwaitsFlush t) =
-    some (record { tag = r .tag; seq = r .seq; kind = Page (t .start) (t .end); handle = r .handle; durable = r .durable; held = some (record { buf = some (bufOf s (r .buffer) (t .end .0 - t .start .0)); ticket = t }); split = none })
+liveOf s r Awaits.Nothing = none
+liveOf s r (Awaits.Piece k sp) =
+    some (record {
+      tag = r .tag;
+      seq = r .seq;
+      kind = k;
+      handle = r .handle;
+      durable = r .durable;
+      held = none;
+      split = splitOf (planOf (regionAt s (r .handle))) k sp;
+    })
+liveOf s r (Awaits.Flush t) =
+    some (record {
+      tag = r .tag;
+      seq = r .seq;
+      kind = Kind.Page (t .start) (t .end);
+      handle = r .handle;
+      durable = r .durable;
+      held = some (record { buf = some (bufOf s (r .buffer) (t .end .0 - t .start .0)); ticket = t });
+      split = none;
+    })
 
 unfoldable pub rowAs : State → Row → RustRow
 rowAs s r = record { generation = r .generation; live = liveOf s r (r .awaits) }
 
 unfoldable pub tableOf : State → Table
-tableOf s = record { rows = map (rowAs s) (s .rows); free = s .free; ready = map (completionAs s) (s .ready); live = s .counts .live; «next_seq» = s .counts .submissions }
+tableOf s =
+    record {
+      rows = map (rowAs s) (s .rows);
+      free = s .free;
+      ready = map (completionAs s) (s .ready);
+      live = s .counts .live;
+      «next_seq» = s .counts .submissions;
+    }
 
 -- the store, where so many flushes were issued: "The host passes its flush count"
 unfoldable pub storeOf : State → ℕ → Store
@@ -113,34 +142,34 @@ submitterOf s issued = record { store = storeOf s issued; table = tableOf s }
 
 -- the buffer of the piece under way under a tag, as the queue has it: its length is the piece's
 unfoldable pub pieceIn : State → Row → Awaits → ℕ
-pieceIn s r Nothing = 0
-pieceIn s r (Piece k sp) = pieceLength (planOf (regionAt s (r .handle))) k sp
-pieceIn s r (AwaitsFlush t) = 0
+pieceIn s r Awaits.Nothing = 0
+pieceIn s r (Awaits.Piece k sp) = pieceLength (planOf (regionAt s (r .handle))) k sp
+pieceIn s r (Awaits.Flush t) = 0
 
 unfoldable pub inFlight : State → ℕ → IoBuf
 inFlight s t = bufOf s (rowAt s (rowOf t) .buffer) (pieceIn s (rowAt s (rowOf t)) (rowAt s (rowOf t) .awaits))
 
 -- an answer that is no refusal
 unfoldable pub answerOf : RawResult → Answer
-answerOf (Ok n) = Count n
-answerOf (Err e) = Failed (e .raw) (e .media)
+answerOf (Ok n) = Answer.Count n
+answerOf (Err e) = Answer.Error (e .raw) (e .media)
 
 -- a refusal
 unfoldable pub refusalOf : Option RawError → Answer
-refusalOf none = Refused
-refusalOf (some e) = RefusedWith (e .raw) (e .media)
+refusalOf none = Answer.Refused
+refusalOf (some e) = Answer.RefusedWith (e .raw) (e .media)
 
 -- whether the piece under way is a later one: bytes are done before it
 unfoldable pub isLater : Awaits → Bool
-isLater Nothing = false
-isLater (Piece k sp) = ltb 0 (sp .done)
-isLater (AwaitsFlush t) = false
+isLater Awaits.Nothing = false
+isLater (Awaits.Piece k sp) = ltb 0 (sp .done)
+isLater (Awaits.Flush t) = false
 
 -- a flush result; the context of a failure is the Rust's own until it is set to the ticket's
 unfoldable pub flushedOf : FlushResult → Flushed
-flushedOf (Need n) = Ok n
-flushedOf (unsure cause) = Err (DurabilityUnknown (cause .op) (cause .raw) (record { region = none; range = none }))
-flushedOf (failedBy cause) = Err (Poisoned cause)
+flushedOf (Flushed.Need n) = Ok n
+flushedOf (Flushed.Unknown cause) = Err (DurabilityUnknown (cause .op) (cause .raw) (record { region = none; range = none }))
+flushedOf (Flushed.Poisoned cause) = Err (Poisoned cause)
 
 -- a request's position
 unfoldable pub posOf : Request → RegionPos
@@ -150,77 +179,78 @@ posOf q = record { volume = q .volume; region = q .region; generation = q .gener
 
 -- `Finish`, as the reply and the state after it say; none, where no `Finish` says the reply
 unfoldable pub finishAs : State → Reply → Option Finish
-finishAs s (piece t offset count b) = some (Next t (offset .0) (bufOf s b count) (writesIn (rowAt s (rowOf t) .awaits)))
-finishAs s (turnedAway f) = none
-finishAs s (rejectedFirst range op raw buf) = none
-finishAs s (isDone t) = some Finished
-finishAs s (flushAsked t need) = some (Flush t need)
-finishAs s (Took c) = none
-finishAs s noneReady = none
-finishAs s isOk = none
-finishAs s (Writes b) = none
-finishAs s (Mark n) = none
+finishAs s (Reply.Piece t offset count b) = some (Next t (offset .0) (bufOf s b count) (writesIn (rowAt s (rowOf t) .awaits)))
+finishAs s (Reply.No f) = none
+finishAs s (Reply.Rejected range op raw buf) = none
+finishAs s (Reply.Done t) = some Finished
+finishAs s (Reply.Flush t need) = some (Flush t need)
+finishAs s (Reply.Took c) = none
+finishAs s Reply.None = none
+finishAs s Reply.Ok = none
+finishAs s (Reply.Writes b) = none
+finishAs s (Reply.Mark n) = none
 
 -- what is taken
 unfoldable pub frontAs : State → Reply → Option (Option RustCompletion)
-frontAs s (piece t offset count b) = none
-frontAs s (turnedAway f) = none
-frontAs s (rejectedFirst range op raw buf) = none
-frontAs s (isDone t) = none
-frontAs s (flushAsked t need) = none
-frontAs s (Took c) = some (some (completionAs s c))
-frontAs s noneReady = some none
-frontAs s isOk = none
-frontAs s (Writes b) = none
-frontAs s (Mark n) = none
+frontAs s (Reply.Piece t offset count b) = none
+frontAs s (Reply.No f) = none
+frontAs s (Reply.Rejected range op raw buf) = none
+frontAs s (Reply.Done t) = none
+frontAs s (Reply.Flush t need) = none
+frontAs s (Reply.Took c) = some (some (completionAs s c))
+frontAs s Reply.None = some none
+frontAs s Reply.Ok = none
+frontAs s (Reply.Writes b) = none
+frontAs s (Reply.Mark n) = none
 
 -- a context
 unfoldable pub contextAs : Context → ErrorContext
-contextAs bare = record { region = none; range = none }
-contextAs (withRegion id) = record { region = some id; range = none }
-contextAs (withRange r) = contextOf r
+contextAs Context.None = record { region = none; range = none }
+contextAs (Context.Region id) = record { region = some id; range = none }
+contextAs (Context.Range r) = contextOf r
 
 -- a number up to 10 as the Rust's error; the Rust has none of the others
 unfoldable pub errorAs : Refusal → Option Error
-errorAs (no1 c) = some (NotWritten ForeignPosition (contextAs c))
-errorAs (no2 c) = some (NotWritten ForeignBuffer (contextAs c))
-errorAs (no3 c) = some (NotWritten QueueFull (contextAs c))
-errorAs (no4 c) = some (NotWritten StaleGeneration (contextAs c))
-errorAs (no5 c) = some (NotWritten NotReady (contextAs c))
-errorAs (no6 c) = some (NotWritten ReadOnly (contextAs c))
-errorAs (no7 first) = some (Poisoned first)
-errorAs (no8 c) = some (NotWritten Empty (contextAs c))
-errorAs (no9 c) = some (NotWritten Misaligned (contextAs c))
-errorAs (no10 c) = some (NotWritten OutOfBounds (contextAs c))
-errorAs (NotHeld c) = none
-errorAs (LifetimeSpent c) = none
-errorAs Unfit = none
-errorAs UnknownTag = none
-errorAs NotAwaited = none
-errorAs AbovePiece = none
+errorAs (Refusal.ForeignPosition c) = some (NotWritten ForeignPosition (contextAs c))
+errorAs (Refusal.ForeignBuffer c) = some (NotWritten ForeignBuffer (contextAs c))
+errorAs (Refusal.QueueFull c) = some (NotWritten QueueFull (contextAs c))
+errorAs (Refusal.StaleGeneration c) = some (NotWritten StaleGeneration (contextAs c))
+errorAs (Refusal.NotReady c) = some (NotWritten NotReady (contextAs c))
+errorAs (Refusal.ReadOnly c) = some (NotWritten ReadOnly (contextAs c))
+errorAs (Refusal.Poisoned first) = some (Poisoned first)
+errorAs (Refusal.Empty c) = some (NotWritten Empty (contextAs c))
+errorAs (Refusal.Misaligned c) = some (NotWritten Misaligned (contextAs c))
+errorAs (Refusal.OutOfBounds c) = some (NotWritten OutOfBounds (contextAs c))
+errorAs (Refusal.NotHeld c) = none
+errorAs (Refusal.LifetimeSpent c) = none
+errorAs Refusal.Unfit = none
+errorAs Refusal.UnknownTag = none
+errorAs Refusal.NotAwaited = none
+errorAs Refusal.AbovePiece = none
 
 -- "The host gets Io or QueueFull and the range"
 unfoldable pub refusedError : Range → Op → OsError → Error
-refusedError r op noError = NotWritten QueueFull (contextOf r)
-refusedError r op (Raw n) = Io op n (contextOf r)
+refusedError r op OsError.None = NotWritten QueueFull (contextOf r)
+refusedError r op (OsError.Raw n) = Io op n (contextOf r)
 
 -- the operation that the queue is handed
 unfoldable pub reqAs : Bool → ℕ → IoBuf → Req
 reqAs true offset buf = WriteAt offset buf
 reqAs false offset buf = ReadAt offset buf
 
--- what a submission comes to, as the reply and the state after it say: the first piece, a rejection with the caller's buffer, or a refused first piece
+-- what a submission comes to, as the reply and the state after it say: the first piece, a rejection with the caller's buffer, or a refused first
+-- piece
 unfoldable pub issuedAs : Bool → State → IoBuf → Reply → Option Issued
-issuedAs w s buf (piece t offset count b) = some (Submit t (reqAs w (offset .0) (bufOf s b count)))
-issuedAs w s buf (turnedAway f) = Option·map (λ e. Reject (record { error = e; buf = some buf })) (errorAs f)
-issuedAs w s buf (rejectedFirst range op raw b) = some (Reject (record { error = refusedError range op raw; buf = backOf s b }))
-issuedAs w s buf (isDone t) = none
-issuedAs w s buf (flushAsked t need) = none
-issuedAs w s buf (Took c) = none
-issuedAs w s buf noneReady = none
-issuedAs w s buf isOk = none
-issuedAs w s buf (Writes b) = none
-issuedAs w s buf (Mark n) = none
+issuedAs w s buf (Reply.Piece t offset count b) = some (Submit t (reqAs w (offset .0) (bufOf s b count)))
+issuedAs w s buf (Reply.No f) = Option·map (λ e. Reject (record { error = e; buf = some buf })) (errorAs f)
+issuedAs w s buf (Reply.Rejected range op raw b) = some (Reject (record { error = refusedError range op raw; buf = backOf s b }))
+issuedAs w s buf (Reply.Done t) = none
+issuedAs w s buf (Reply.Flush t need) = none
+issuedAs w s buf (Reply.Took c) = none
+issuedAs w s buf Reply.None = none
+issuedAs w s buf Reply.Ok = none
+issuedAs w s buf (Reply.Writes b) = none
+issuedAs w s buf (Reply.Mark n) = none
 
 -- ---- the squares
 
@@ -238,8 +268,8 @@ pub record Takes (issued : ℕ) (s : State) (popped : Popped) (after : State × 
   pub store : storeOf (after .0) issued ≡ storeOf s issued
   pub front : some (popped .front) ≡ frontAs (after .0) (after .1)
 
--- What the Rust asserts of the piece under way: it moves the operation on (`finish`), its buffer has room for the whole operation (`set_len`), and its range lies
--- within the data and within one run (`RegionMap::locate`).
+-- What the Rust asserts of the piece under way: it moves the operation on (`finish`), its buffer has room for the whole operation (`set_len`), and
+-- its range lies within the data and within one run (`RegionMap::locate`).
 pub record Asserts (m : Map) (start : ℕ) (sp : Split) (count capacity : ℕ) : Type 0 where
   pub moves : sp .done < sp .done + count
   pub most : sp .done + count ≤ sp .total
@@ -249,52 +279,67 @@ pub record Asserts (m : Map) (start : ℕ) (sp : Split) (count capacity : ℕ) :
 
 -- the calls that set a mark of a region, or report poison
 unfoldable pub isSetting : Call → Bool
-isSetting (Write q) = false
-isSetting (ReadPage q) = false
-isSetting (Answers t a back flushes) = false
-isSetting (FlushedCall t result) = false
-isSetting Take = false
-isSetting (SetGate h x) = true
-isSetting (SetReadOnly h x) = true
-isSetting (SetForced h x) = true
-isSetting (ReportPoison cause) = true
+isSetting (Call.Write q) = false
+isSetting (Call.ReadPage q) = false
+isSetting (Call.Answer t a back flushes) = false
+isSetting (Call.Flushed t result) = false
+isSetting Call.Take = false
+isSetting (Call.SetGate h x) = true
+isSetting (Call.SetReadOnly h x) = true
+isSetting (Call.SetForced h x) = true
+isSetting (Call.ReportPoison cause) = true
 
 -- of every sound table, and every call in the domain of the comparison. Proved in proofs/AsStep.antt (as-step).
 pub record AsStep : Type 0 where
   -- `Table::new`
   pub new : (o : Opening) (plans : List Plan) (l : Lengths) (pool : List ℕ) → rustNew (o .depth) ≡ tableOf (opened o plans l pool)
   -- `Submitter::write`, with a queue that takes the first piece; and with one that refuses it at once: in step the answer that follows
-  pub write : (before : Option ℕ) (s : State) (l : Lengths) (q : Request) (issued : ℕ) → Sound s → InDomain before s l (Write q)
-      → Submits issued true (bufOf s (q .buffer) (q .length)) (rustWrite (submitterOf s issued) (q .handle) (posOf q) (bufOf s (q .buffer) (q .length)) (q .durable) (q .tag) Taken) (step s l (Write q))
-  pub write-refused : (before : Option ℕ) (s : State) (l : Lengths) (q : Request) (issued : ℕ) → Sound s → InDomain before s l (Write q)
-      → (t : ℕ) (offset : Offset) (count b : ℕ) → step s l (Write q) .1 ≡ piece t offset count b
-      → (raw : Option RawError) (back : Bool) (flushes : ℕ) → InDomain (some t) (step s l (Write q) .0) l (Answers t (refusalOf raw) back flushes)
-      → Submits issued true (bufOf s (q .buffer) (q .length)) (rustWrite (submitterOf s issued) (q .handle) (posOf q) (bufOf s (q .buffer) (q .length)) (q .durable) (q .tag) (QueueRefuses raw back))
-      (step (step s l (Write q) .0) l (Answers t (refusalOf raw) back flushes))
+  pub write : (before : Option ℕ) (s : State) (l : Lengths) (q : Request) (issued : ℕ) → Sound s → InDomain before s l (Call.Write q)
+      → Submits issued true (bufOf s (q .buffer) (q .length))
+      (rustWrite (submitterOf s issued) (q .handle) (posOf q) (bufOf s (q .buffer) (q .length)) (q .durable) (q .tag) Taken) (step s l (Call.Write q))
+  pub write-refused : (before : Option ℕ) (s : State) (l : Lengths) (q : Request) (issued : ℕ) → Sound s → InDomain before s l (Call.Write q)
+      → (t : ℕ) (offset : Offset) (count b : ℕ) → step s l (Call.Write q) .1 ≡ Reply.Piece t offset count b
+      → (raw : Option RawError) (back : Bool) (flushes : ℕ)
+      → InDomain (some t) (step s l (Call.Write q) .0) l (Call.Answer t (refusalOf raw) back flushes)
+      → Submits issued true (bufOf s (q .buffer) (q .length))
+      (rustWrite (submitterOf s issued) (q .handle) (posOf q) (bufOf s (q .buffer) (q .length)) (q .durable) (q .tag) (QueueRefuses raw back))
+      (step (step s l (Call.Write q) .0) l (Call.Answer t (refusalOf raw) back flushes))
   -- `Submitter::read_page`, likewise
-  pub read : (before : Option ℕ) (s : State) (l : Lengths) (q : Request) (issued : ℕ) → Sound s → InDomain before s l (ReadPage q)
-      → Submits issued false (bufOf s (q .buffer) (q .length)) («read_page» (submitterOf s issued) (q .handle) (posOf q) (bufOf s (q .buffer) (q .length)) (q .tag) Taken) (step s l (ReadPage q))
-  pub read-refused : (before : Option ℕ) (s : State) (l : Lengths) (q : Request) (issued : ℕ) → Sound s → InDomain before s l (ReadPage q)
-      → (t : ℕ) (offset : Offset) (count b : ℕ) → step s l (ReadPage q) .1 ≡ piece t offset count b
-      → (raw : Option RawError) (back : Bool) (flushes : ℕ) → InDomain (some t) (step s l (ReadPage q) .0) l (Answers t (refusalOf raw) back flushes)
-      → Submits issued false (bufOf s (q .buffer) (q .length)) («read_page» (submitterOf s issued) (q .handle) (posOf q) (bufOf s (q .buffer) (q .length)) (q .tag) (QueueRefuses raw back))
-      (step (step s l (ReadPage q) .0) l (Answers t (refusalOf raw) back flushes))
+  pub read : (before : Option ℕ) (s : State) (l : Lengths) (q : Request) (issued : ℕ) → Sound s → InDomain before s l (Call.ReadPage q)
+      → Submits issued false (bufOf s (q .buffer) (q .length))
+      («read_page» (submitterOf s issued) (q .handle) (posOf q) (bufOf s (q .buffer) (q .length)) (q .tag) Taken) (step s l (Call.ReadPage q))
+  pub read-refused : (before : Option ℕ) (s : State) (l : Lengths) (q : Request) (issued : ℕ) → Sound s → InDomain before s l (Call.ReadPage q)
+      → (t : ℕ) (offset : Offset) (count b : ℕ) → step s l (Call.ReadPage q) .1 ≡ Reply.Piece t offset count b
+      → (raw : Option RawError) (back : Bool) (flushes : ℕ)
+      → InDomain (some t) (step s l (Call.ReadPage q) .0) l (Call.Answer t (refusalOf raw) back flushes)
+      → Submits issued false (bufOf s (q .buffer) (q .length))
+      («read_page» (submitterOf s issued) (q .handle) (posOf q) (bufOf s (q .buffer) (q .length)) (q .tag) (QueueRefuses raw back))
+      (step (step s l (Call.ReadPage q) .0) l (Call.Answer t (refusalOf raw) back flushes))
   -- `Table::finish`, of a count or an error; the flush count is the answer's
-  pub finish : (before : Option ℕ) (s : State) (l : Lengths) (t : ℕ) (result : RawResult) (back : Bool) (flushes : ℕ) → Sound s → InDomain before s l (Answers t (answerOf result) back flushes)
-      → Finishes flushes (rustFinish (submitterOf s flushes) t (returned back (inFlight s t)) result) (step s l (Answers t (answerOf result) back flushes))
+  pub finish : (before : Option ℕ) (s : State) (l : Lengths) (t : ℕ) (result : RawResult) (back : Bool) (flushes : ℕ) → Sound s
+      → InDomain before s l (Call.Answer t (answerOf result) back flushes)
+      → Finishes flushes (rustFinish (submitterOf s flushes) t (returned back (inFlight s t)) result)
+      (step s l (Call.Answer t (answerOf result) back flushes))
   -- `Table::refused_next`, of a later piece
-  pub refused-next : (before : Option ℕ) (s : State) (l : Lengths) (t : ℕ) (raw : Option RawError) (back : Bool) (flushes : ℕ) → Sound s → InDomain before s l (Answers t (refusalOf raw) back flushes)
+  pub refused-next : (before : Option ℕ) (s : State) (l : Lengths) (t : ℕ) (raw : Option RawError) (back : Bool) (flushes : ℕ) → Sound s
+      → InDomain before s l (Call.Answer t (refusalOf raw) back flushes)
       → isLater (rowAt s (rowOf t) .awaits) ≡ true
-      → Finishes flushes («refused_next» (submitterOf s flushes) t (returned back (inFlight s t)) raw) (step s l (Answers t (refusalOf raw) back flushes))
+      → Finishes flushes («refused_next» (submitterOf s flushes) t (returned back (inFlight s t)) raw)
+      (step s l (Call.Answer t (refusalOf raw) back flushes))
   -- `Table::abort`, of a first piece: the table, and a store that nothing poisons
-  pub abort : (before : Option ℕ) (s : State) (l : Lengths) (t : ℕ) (raw : Option RawError) (back : Bool) (flushes : ℕ) → Sound s → InDomain before s l (Answers t (refusalOf raw) back flushes)
+  pub abort : (before : Option ℕ) (s : State) (l : Lengths) (t : ℕ) (raw : Option RawError) (back : Bool) (flushes : ℕ) → Sound s
+      → InDomain before s l (Call.Answer t (refusalOf raw) back flushes)
       → isLater (rowAt s (rowOf t) .awaits) ≡ false
-      → (rustAbort (tableOf s) (indexIn t) ≡ tableOf (step s l (Answers t (refusalOf raw) back flushes) .0)) × (storeOf (step s l (Answers t (refusalOf raw) back flushes) .0) flushes ≡ storeOf s flushes)
+      → (rustAbort (tableOf s) (indexIn t) ≡ tableOf (step s l (Call.Answer t (refusalOf raw) back flushes) .0))
+      × (storeOf (step s l (Call.Answer t (refusalOf raw) back flushes) .0) flushes ≡ storeOf s flushes)
   -- `Table::flushed`
-  pub flushed : (before : Option ℕ) (s : State) (l : Lengths) (t : ℕ) (result : FlushResult) (issued : ℕ) → Sound s → InDomain before s l (FlushedCall t result)
-      → (rustFlushed (submitterOf s issued) t (flushedOf result) ≡ submitterOf (step s l (FlushedCall t result) .0) issued) × (step s l (FlushedCall t result) .1 ≡ isDone t)
+  pub flushed : (before : Option ℕ) (s : State) (l : Lengths) (t : ℕ) (result : FlushResult) (issued : ℕ) → Sound s
+      → InDomain before s l (Call.Flushed t result)
+      → (rustFlushed (submitterOf s issued) t (flushedOf result) ≡ submitterOf (step s l (Call.Flushed t result) .0) issued)
+      × (step s l (Call.Flushed t result) .1 ≡ Reply.Done t)
   -- `Completions::next`
-  pub take : (before : Option ℕ) (s : State) (l : Lengths) (issued : ℕ) → InDomain before s l Take → Takes issued s (next (tableOf s)) (step s l Take)
+  pub take : (before : Option ℕ) (s : State) (l : Lengths) (issued : ℕ) → InDomain before s l Call.Take
+      → Takes issued s (next (tableOf s)) (step s l Call.Take)
   -- a setting or a report leaves the table as it was
   pub settings : (s : State) (l : Lengths) (c : Call) → isSetting c ≡ true → tableOf (step s l c .0) ≡ tableOf s
   -- so do the host's writes between calls, as document 01 allows them
@@ -302,5 +347,7 @@ pub record AsStep : Type 0 where
   -- io.rs's `receipt_for` is document 01's receipt
   pub receipts : (store : Store) (t : WriteTicket) (need : ℕ) → «receipt_for» store t need ≡ «durable_receipt» store t need
   -- what the Rust asserts
-  pub asserts : (s : State) (t : ℕ) (k : Kind) (sp : Split) → Sound s → names (rowAt s (rowOf t)) t ≡ true → rowAt s (rowOf t) .awaits ≡ Piece k sp
-      → Asserts (regionAt s (rowAt s (rowOf t) .handle) .map) (firstOf k .0) sp (pieceLength (planOf (regionAt s (rowAt s (rowOf t) .handle))) k sp) (s .settings .capacity)
+  pub asserts : (s : State) (t : ℕ) (k : Kind) (sp : Split) → Sound s → names (rowAt s (rowOf t)) t ≡ true
+      → rowAt s (rowOf t) .awaits ≡ Awaits.Piece k sp
+      → Asserts (regionAt s (rowAt s (rowOf t) .handle) .map) (firstOf k .0) sp (pieceLength (planOf (regionAt s (rowAt s (rowOf t) .handle))) k sp)
+      (s .settings .capacity)

@@ -1,8 +1,8 @@
--- The Rust's functions on values: each takes what the Rust's has in its hands and returns it as the Rust leaves it, in the Rust's order of tests and statements
--- and under its names, each with its file. A `&mut self` goes in and comes out. Assertions and busy marks are left out. The map's `run_left` and `locate` are the
--- crate regionmap's definitions of them.
--- Not in docs/src, and so as document 01 restates them: `settle_write`, `settle_read`, `durable_receipt`, `in_range` (settle.rs), the gate (gate.rs) with
--- `retired_error` (lifecycle.rs), the pool's `owns` and IoBuf's `set_len` (store_io_buf).
+-- The Rust's functions on values: each takes what the Rust's has in its hands and returns it as the Rust leaves it, in the Rust's order of tests and
+-- statements and under its names, each with its file. A `&mut self` goes in and comes out. Assertions and busy marks are left out. The map's
+-- `run_left` and `locate` are the crate regionmap's definitions of them. Not in docs/src, and so as document 01 restates them: `settle_write`,
+-- `settle_read`, `durable_receipt`, `in_range` (settle.rs), the gate (gate.rs) with `retired_error` (lifecycle.rs), the pool's `owns` and IoBuf's
+-- `set_len` (store_io_buf).
 use mathlib.Core.Bool.{Bool, true, false, not, _&&_, _||_}
 use mathlib.Core.List.{List, [], _∷_, _++_}
 use mathlib.Core.Option.{Option, none, some, Option·map}
@@ -14,24 +14,28 @@ use Rattle.regionmap.specs.declared.Position.{Position}
 use Rattle.regionmap.specs.Map.{runLeft, place}
 use Rattle.regionmap.specs.Words.{positionOf}
 use Rattle.domain.specs.declared.Op.{Op}
-use Rattle.domain.specs.declared.Op.the-variants.{Read as readOp, Write as writeOp}
+use Rattle.domain.specs.declared.Op.the-variants as Op
 use Rattle.domain.specs.declared.OsError.{OsError}
-use Rattle.domain.specs.declared.OsError.the-variants.{None as noError, Raw}
+use Rattle.domain.specs.declared.OsError.the-variants as OsError
 use Rattle.domain.specs.declared.Poisoned.{Poisoned as Poison}
-use Rattle.domain.specs.declared.Poisoned.the-variants.{Never, First}
+use Rattle.domain.specs.declared.Poisoned.the-variants as Poisoned
 use Rattle.domain.specs.Domain.{firstKept}
 use Rattle.completion.specs.declared.WriteTicket.{WriteTicket}
 use Rattle.completion.specs.declared.DurableReceipt.{DurableReceipt}
 use Rattle.model.specs.declared.Kind.{Kind}
-use Rattle.model.specs.declared.Kind.the-variants.{Page, Read as Reads}
+use Rattle.model.specs.declared.Kind.the-variants as Kind
 use Rattle.model.specs.declared.Split.{Split}
 use Rattle.model.specs.declared.Gate.{Gate}
-use Rattle.model.specs.declared.Gate.the-variants.{Open, Recycled, Released}
-use Rattle.model.specs.State.{Region, noRegion, upFrom}
-use Rattle.model.specs.Memory.{receiptFor}
-use Rattle.rusttable.specs.Table.{Result, Result.Ok, Result.Err, IoBuf, RawError, RawResult, ErrorContext, Error, Flushed, Written, Done, Outcome, Completion, Held, Live, Row, Table, Finish, Store, Submitter, RegionPos, Req, Submitted, Issued}
-use Rattle.rusttable.specs.Table.{NotWrittenCause, NotWrittenCause.ForeignPosition, NotWrittenCause.ForeignBuffer, NotWrittenCause.QueueFull, NotWrittenCause.StaleGeneration, NotWrittenCause.NotReady, NotWrittenCause.ReadOnly, NotWrittenCause.Empty, NotWrittenCause.Misaligned, NotWrittenCause.OutOfBounds, NotWrittenCause.Interrupted}
-use Rattle.rusttable.specs.Table.{Error.NotWritten, Error.Poisoned, Error.Io, Error.DurabilityUnknown, Error.Corruption, Done.Wrote, Done.WholeStore, Done.Read, Finish.Finished, Finish.Flush, Finish.Next, Req.WriteAt, Req.ReadAt, Submitted.Taken, Submitted.Refused, Issued.Submit, Issued.Reject}
+use Rattle.model.specs.declared.Gate.the-variants as Gate
+use Rattle.model.specs.State.{Region, noRegion, upFrom, receiptFor}
+use Rattle.rusttable.specs.Table.{Result, Result.Ok, Result.Err, IoBuf, RawError, RawResult, ErrorContext, Error, Flushed, Written, Done}
+use Rattle.rusttable.specs.Table.{Outcome, Completion, Held, Live, Row, Table, Finish, Store, Submitter, RegionPos, Req, Submitted, Issued}
+use Rattle.rusttable.specs.Table.{NotWrittenCause, NotWrittenCause.ForeignPosition, NotWrittenCause.ForeignBuffer, NotWrittenCause.QueueFull}
+use Rattle.rusttable.specs.Table.{NotWrittenCause.StaleGeneration, NotWrittenCause.NotReady, NotWrittenCause.ReadOnly, NotWrittenCause.Empty}
+use Rattle.rusttable.specs.Table.{NotWrittenCause.Misaligned, NotWrittenCause.OutOfBounds, NotWrittenCause.Interrupted}
+use Rattle.rusttable.specs.Table.{Error.NotWritten, Error.Poisoned, Error.Io, Error.DurabilityUnknown, Error.Corruption, Done.Wrote}
+use Rattle.rusttable.specs.Table.{Done.WholeStore, Done.Read, Finish.Finished, Finish.Flush, Finish.Next, Req.WriteAt, Req.ReadAt}
+use Rattle.rusttable.specs.Table.{Submitted.Taken, Submitted.Refused, Issued.Submit, Issued.Reject}
 
 -- ---- the Rust's own forms
 
@@ -97,17 +101,24 @@ unfoldable pub «not_written» : NotWrittenCause → ErrorContext → Error
 
 -- of an error that there may be, its number
 unfoldable pub numberOf : Option RawError → OsError
-numberOf none = noError
-numberOf (some e) = Raw (e .raw)
+numberOf none = OsError.None
+numberOf (some e) = OsError.Raw (e .raw)
 
 -- io.rs, `Store::unknown`: "Poisons the domain after a failure past submission and returns the matching error."
 unfoldable pub unknown : Store → Op → OsError → ErrorContext → Store × Error
-unknown store op raw c =
-    (record { settings = store .settings; regions = store .regions; poison = firstKept (store .poison) (record { op = op; raw = raw }); issued = store .issued }, DurabilityUnknown op raw c)
+unknown store op raw c = (
+  record {
+    settings = store .settings;
+    regions = store .regions;
+    poison = firstKept (store .poison) (record { op = op; raw = raw });
+    issued = store .issued;
+  },
+  DurabilityUnknown op raw c,
+)
 
 -- io.rs, `Store::refused`
 unfoldable pub refused : Option RawError → ErrorContext → Error
-refused (some raw) c = Io writeOp (raw .raw) c
+refused (some raw) c = Io Op.Write (raw .raw) c
 refused none c = «not_written» QueueFull c
 
 -- domain/mod.rs, `Domain::ticket`: `self.issued.load(..).wrapping_add(1)`
@@ -117,17 +128,38 @@ domainTicket store = (store .issued + 1) % 2 ^ 64
 -- io.rs, `Store::ticket`
 unfoldable pub ticket : Store → Region → Position → Position → WriteTicket
 ticket store r start end =
-    record { volume = store .settings .volume; region = r .id; generation = r .generation; start = start; end = end; need = domainTicket store; epoch = store .settings .epoch }
+    record {
+      volume = store .settings .volume;
+      region = r .id;
+      generation = r .generation;
+      start = start;
+      end = end;
+      need = domainTicket store;
+      epoch = store .settings .epoch;
+    }
 
 -- io.rs, `Store::receipt_for`
 unfoldable pub «receipt_for» : Store → WriteTicket → ℕ → DurableReceipt
 «receipt_for» store t need =
-    record { volume = t .volume; region = t .region; generation = t .generation; class = store .settings .class; label = store .settings .label; start = t .start; through = t .end; untorn = false; need = need; prefix = false; synced = not (eqb need (2 ^ 64 - 1)) && not (eqb need 0); epoch = t .epoch }
+    record {
+      volume = t .volume;
+      region = t .region;
+      generation = t .generation;
+      class = store .settings .class;
+      label = store .settings .label;
+      start = t .start;
+      through = t .end;
+      untorn = false;
+      need = need;
+      prefix = false;
+      synced = not (eqb need (2 ^ 64 - 1)) && not (eqb need 0);
+      epoch = t .epoch;
+    }
 
 -- io.rs, `Store::ready`
 unfoldable pub unpoisoned : Poison → Result (Unit {0}) Error
-unpoisoned Never = Ok tt
-unpoisoned (First first) = Err (Poisoned first)
+unpoisoned Poisoned.Never = Ok tt
+unpoisoned (Poisoned.First first) = Err (Poisoned first)
 
 unfoldable pub ready : Store → Result (Unit {0}) Error
 ready store = pick (store .settings .«read_only») (Err («not_written» ReadOnly noContext)) (unpoisoned (store .poison))
@@ -138,21 +170,24 @@ unfoldable pub «ready_for» : Store → Region → Result (Unit {0}) Error
 
 -- ---- restated by document 01
 
--- settle.rs, `settle_write`: "A write is written only if the count is the whole length and the buffer came back. Else it ends DurabilityUnknown with the OS
--- error, if there was one, and the store is poisoned with the cause write and that error, the first cause kept."
+-- settle.rs, `settle_write`: "A write is written only if the count is the whole length and the buffer came back. Else it ends DurabilityUnknown with
+-- the OS error, if there was one, and the store is poisoned with the cause write and that error, the first cause kept."
 unfoldable pub «settle_write» : Store → Region → Position → Position → Bool → OsError → Store × Result WriteTicket Error
 «settle_write» store state start end full err =
-    pick full (store, Ok (ticket store state start end)) (unknown store writeOp err («ctx_range» state start end) .0, Err (unknown store writeOp err («ctx_range» state start end) .1))
+    pick full (store, Ok (ticket store state start end))
+    (unknown store Op.Write err («ctx_range» state start end) .0, Err (unknown store Op.Write err («ctx_range» state start end) .1))
 
 -- settle.rs, `settle_read`: "A read ends with its count .. A count without buffer: Interrupted. A media error: Corruption. Another error: Io."
 unfoldable pub «settle_read» : Region → Position → Position → Option IoBuf → RawResult → Result ℕ Error
 «settle_read» state start end none (Ok n) = Err («not_written» Interrupted («ctx_range» state start end))
 «settle_read» state start end (some b) (Ok n) = Ok n
-«settle_read» state start end none (Err e) = Err (pick (e .media) (Corruption («ctx_range» state start end)) (Io readOp (e .raw) («ctx_range» state start end)))
-«settle_read» state start end (some b) (Err e) = Err (pick (e .media) (Corruption («ctx_range» state start end)) (Io readOp (e .raw) («ctx_range» state start end)))
+«settle_read» state start end none (Err e) =
+    Err (pick (e .media) (Corruption («ctx_range» state start end)) (Io Op.Read (e .raw) («ctx_range» state start end)))
+«settle_read» state start end (some b) (Err e) =
+    Err (pick (e .media) (Corruption («ctx_range» state start end)) (Io Op.Read (e .raw) («ctx_range» state start end)))
 
--- settle.rs, `durable_receipt`, of a page write: "a receipt with the result's need, synced unless that is 0 or 2^64 − 1"; "A receipt takes its range from the
--- ticket; untorn and prefix are false."
+-- settle.rs, `durable_receipt`, of a page write: "a receipt with the result's need, synced unless that is 0 or 2^64 − 1"; "A receipt takes its range
+-- from the ticket; untorn and prefix are false."
 unfoldable pub «durable_receipt» : Store → WriteTicket → ℕ → DurableReceipt
 «durable_receipt» store t need = receiptFor (store .settings) t need
 
@@ -161,14 +196,15 @@ unfoldable pub «in_range» : Error → WriteTicket → Error
 «in_range» (NotWritten cause c) t = NotWritten cause c
 «in_range» (Poisoned first) t = Poisoned first
 «in_range» (Io op raw c) t = Io op raw c
-«in_range» (DurabilityUnknown op raw c) t = DurabilityUnknown op raw (record { region = some (t .region); range = some (record { start = t .start; end = t .end }) })
+«in_range» (DurabilityUnknown op raw c) t =
+    DurabilityUnknown op raw (record { region = some (t .region); range = some (record { start = t .start; end = t .end }) })
 «in_range» (Corruption c) t = Corruption c
 
 -- gate.rs and lifecycle.rs: `OwnedPass::enter(state).map_err(|why| retired_error(why, state))`: "recycled 4 StaleGeneration, released 5 NotReady"
 unfoldable pub enter : Region → Gate → Result (Unit {0}) Error
-enter state Open = Ok tt
-enter state Recycled = Err («not_written» StaleGeneration (ctx state))
-enter state Released = Err («not_written» NotReady (ctx state))
+enter state Gate.Open = Ok tt
+enter state Gate.Recycled = Err («not_written» StaleGeneration (ctx state))
+enter state Gate.Released = Err («not_written» NotReady (ctx state))
 
 -- store_io_buf's `BufPool::owns`: "Is the buffer in the pool, its length within capacity?"
 unfoldable pub owns : Store → IoBuf → Bool
@@ -194,7 +230,8 @@ indexIn qtag = qtag % 2 ^ 32
 unfoldable pub generationIn : ℕ → ℕ
 generationIn qtag = qtag / 2 ^ 32
 
--- `Table::claim`: a free row, its queue tag `u64::from(index) | (u64::from(generation) << 32)` (an index has 32 bits, so the `or` is a sum), and the table
+-- `Table::claim`: a free row, its queue tag `u64::from(index) | (u64::from(generation) << 32)` (an index has 32 bits, so the `or` is a sum), and the
+-- table
 pub record Claim : Type 0 where
   pub index : ℕ
   pub qtag : ℕ
@@ -203,7 +240,12 @@ pub record Claim : Type 0 where
 unfoldable pub popped : Table → List ℕ → Option Claim
 popped t [] = none
 popped t (index ∷ rest) =
-    some (record { index = index; qtag = index + getD (t .rows) index emptyRow .generation * 2 ^ 32; table = record { rows = t .rows; free = rest; ready = t .ready; live = t .live; «next_seq» = t .«next_seq» } })
+    some
+    (record {
+      index = index;
+      qtag = index + getD (t .rows) index emptyRow .generation * 2 ^ 32;
+      table = record { rows = t .rows; free = rest; ready = t .ready; live = t .live; «next_seq» = t .«next_seq» };
+    })
 
 unfoldable pub claim : Table → Option Claim
 claim t = popped t (t .free)
@@ -219,7 +261,13 @@ withRows t rows = record { rows = rows; free = t .free; ready = t .ready; live =
 unfoldable pub start : Table → ℕ → ℕ → Kind → ℕ → Bool → Table
 start t index tag kind handle durable =
     let live : Live = record { tag = tag; seq = t .«next_seq»; kind = kind; handle = handle; durable = durable; held = none; split = none } in
-    record { rows = set (t .rows) index (rowWith (getD (t .rows) index emptyRow) (some live)); free = t .free; ready = t .ready; live = t .live + 1; «next_seq» = t .«next_seq» + 1 }
+    record {
+      rows = set (t .rows) index (rowWith (getD (t .rows) index emptyRow) (some live));
+      free = t .free;
+      ready = t .ready;
+      live = t .live + 1;
+      «next_seq» = t .«next_seq» + 1;
+    }
 
 -- an operation with another split, or with what it holds for its flush
 unfoldable pub withSplit : Live → Option Split → Live
@@ -267,17 +315,23 @@ release t qtag buf outcome =
     let index = indexIn qtag in
     given (row t qtag) t λ r.
     given (r .live) t λ live.
-    record { rows = set (t .rows) index (record { generation = (r .generation + 1) % 2 ^ 32; live = none }); free = index ∷ t .free; ready = t .ready ++ (record { tag = live .tag; buf = buf; outcome = outcome } ∷ []); live = t .live - 1; «next_seq» = t .«next_seq» }
+    record {
+      rows = set (t .rows) index (record { generation = (r .generation + 1) % 2 ^ 32; live = none });
+      free = index ∷ t .free;
+      ready = t .ready ++ (record { tag = live .tag; buf = buf; outcome = outcome } ∷ []);
+      live = t .live - 1;
+      «next_seq» = t .«next_seq»;
+    }
 
 -- `start_of`
 unfoldable pub «start_of» : Kind → ℕ
-«start_of» (Page start end) = start .0
-«start_of» (Reads start end) = start .0
+«start_of» (Kind.Page start end) = start .0
+«start_of» (Kind.Read start end) = start .0
 
 -- `if let Kind::Read { start, end } = kind`
 unfoldable pub asRead : Kind → Option (Position × Position)
-asRead (Page start end) = none
-asRead (Reads start end) = some (start, end)
+asRead (Kind.Page start end) = none
+asRead (Kind.Read start end) = some (start, end)
 
 -- `region`: the region a row's pass was admitted to; a page operation always has its pass, so there is one
 unfoldable pub region : Store → Live → Region
@@ -293,13 +347,13 @@ isFull (Err e) buf = false
 
 -- `result.err()`
 unfoldable pub errIn : RawResult → OsError
-errIn (Ok n) = noError
-errIn (Err e) = Raw (e .raw)
+errIn (Ok n) = OsError.None
+errIn (Err e) = OsError.Raw (e .raw)
 
 -- `settle`
 unfoldable pub settleKind : Store → Region → Option IoBuf → RawResult → Kind → Store × Outcome
-settleKind store state buf result (Reads start end) = (store, mapOk Read («settle_read» state start end buf result))
-settleKind store state buf result (Page start end) =
+settleKind store state buf result (Kind.Read start end) = (store, mapOk Read («settle_read» state start end buf result))
+settleKind store state buf result (Kind.Page start end) =
     let wrote = «settle_write» store state start end (isFull result buf) (errIn result) in
     (wrote .0, mapOk (λ t. Wrote (record { ticket = t; receipt = none })) (wrote .1))
 
@@ -318,8 +372,8 @@ written (Err e) = none
 
 -- `match store.inner.domain.poisoned()`: "no receipt once poisoned", else "the write itself was durable at completion"
 unfoldable pub receipted : Store → Written → Poison → Outcome
-receipted store w (First first) = Err (Poisoned first)
-receipted store w Never = Ok (Wrote (record { ticket = w .ticket; receipt = some («durable_receipt» store (w .ticket) (2 ^ 64 - 1)) }))
+receipted store w (Poisoned.First first) = Err (Poisoned first)
+receipted store w Poisoned.Never = Ok (Wrote (record { ticket = w .ticket; receipt = some («durable_receipt» store (w .ticket) (2 ^ 64 - 1)) }))
 
 -- "A short read: the buffer holds only the bytes read"
 unfoldable pub readLen : Outcome → Option ℕ
@@ -342,8 +396,10 @@ flushes store live = store .settings .flush || region store live .forced
 unfoldable pub concluded : Submitter → ℕ → Option IoBuf → Live → Outcome → Submitter × Finish
 concluded s qtag buf live outcome =
     pick (live .durable && flushes (s .store) live)
-    (given (written outcome) (handBack s qtag buf outcome) λ w. (withTable s (put (s .table) qtag (withHeld live (some (record { buf = buf; ticket = w .ticket })))), Flush qtag (w .ticket .need)))
-    (pick (live .durable) (given (written outcome) (handBack s qtag buf outcome) λ w. handBack s qtag buf (receipted (s .store) w (s .store .poison))) (handBack s qtag buf outcome))
+    (given (written outcome) (handBack s qtag buf outcome) λ w.
+    (withTable s (put (s .table) qtag (withHeld live (some (record { buf = buf; ticket = w .ticket })))), Flush qtag (w .ticket .need)))
+    (pick (live .durable) (given (written outcome) (handBack s qtag buf outcome) λ w. handBack s qtag buf
+    (receipted (s .store) w (s .store .poison))) (handBack s qtag buf outcome))
 
 -- `Table::conclude`
 unfoldable pub conclude : Submitter → ℕ → Option IoBuf → RawResult → Submitter × Finish
@@ -375,8 +431,11 @@ nextOne s qtag live split piece left b =
     let next = min (runLeft (state .map) pos) left in
     let turned = «set_len» (rotated («set_len» b (split .total)) piece) next in
     let offset = place (state .map) pos in
-    let write = not (isSome (asRead (live .kind))) in
-    (withTable s (put (s .table) qtag (withSplit live (some (record { total = split .total; done = split .done + piece })))), Next qtag offset turned write)
+    let write = not (isSome (asRead (live .kind))) in (
+      withTable s (put (s .table) qtag (withSplit live (some
+          (record { total = split .total; done = split .done + piece })))),
+      Next qtag offset turned write,
+    )
 
 -- `Table::finish`
 unfoldable pub finish : Submitter → ℕ → Option IoBuf → RawResult → Submitter × Finish
@@ -386,7 +445,8 @@ finish s qtag buf result =
     let piece = lenOf buf in
     let whole = isSome buf && okIs result piece in
     let left = split .total - split .done - min piece (split .total - split .done) in
-    pick (whole && ltb 0 left) (given buf (lastOne s qtag buf result live split) λ b. nextOne s qtag live split piece left b) (lastOne s qtag buf result live split)
+    pick (whole && ltb 0 left) (given buf (lastOne s qtag buf result live split) λ b. nextOne s qtag live split piece left b)
+    (lastOne s qtag buf result live split)
 
 -- `raw.map_or(Ok(split.done), Err)`
 unfoldable pub refusedAs : ℕ → Option RawError → RawResult
@@ -401,8 +461,11 @@ unfoldable pub «refused_next» : Submitter → ℕ → Option IoBuf → Option 
     let taken = withTable s (put (s .table) qtag (withSplit live none)) in
     let ordered = Option·map (inOrder split) buf in
     pick (isSome raw) (conclude taken qtag ordered (refusedAs (split .done) raw))
-    (given (asRead (live .kind)) (conclude taken qtag ordered (refusedAs (split .done) raw)) λ r.
-    (withTable taken (release (taken .table) qtag ordered (Err («not_written» QueueFull («ctx_range» (region (s .store) live) (r .0) (r .1))))), Finished))
+    (given (asRead (live .kind)) (conclude taken qtag ordered (refusedAs (split .done) raw)) λ r. (
+      withTable taken (release (taken .table) qtag ordered
+          (Err («not_written» QueueFull («ctx_range» (region (s .store) live) (r .0) (r .1))))),
+      Finished,
+    ))
 
 -- `Table::flushed`: of a row that holds a write, and of one that does not
 unfoldable pub flushDone : Store → Held → Flushed → Outcome
@@ -424,7 +487,8 @@ pub record Popped : Type 0 where
 
 unfoldable pub popFront : Table → List Completion → Popped
 popFront t [] = record { table = t; front = none }
-popFront t (c ∷ more) = record { table = record { rows = t .rows; free = t .free; ready = more; live = t .live; «next_seq» = t .«next_seq» }; front = some c }
+popFront t (c ∷ more) =
+    record { table = record { rows = t .rows; free = t .free; ready = more; live = t .live; «next_seq» = t .«next_seq» }; front = some c }
 
 unfoldable pub next : Table → Popped
 next t = popFront t (t .ready)
@@ -438,7 +502,8 @@ check store state pos len =
     (pick (not (eqb (pos .generation) (state .generation))) (Err («not_written» StaleGeneration c))
     (pick (eqb len 0) (Err («not_written» Empty c))
     (pick (not (eqb (len % store .settings .block) 0)) (Err («not_written» Misaligned c))
-    (pick (ltb (pos .offset .0 + len) (2 ^ 64) && leb (pos .offset .0 + len) (state .map .dataLength)) (Ok (positionOf (pos .offset .0 + len))) (Err («not_written» OutOfBounds c))))))
+    (pick (ltb (pos .offset .0 + len) (2 ^ 64) && leb (pos .offset .0 + len) (state .map .dataLength)) (Ok (positionOf (pos .offset .0 + len)))
+    (Err («not_written» OutOfBounds c))))))
 
 -- ---- submitter/mod.rs
 
@@ -513,11 +578,12 @@ write s handle pos buf durable tag queue =
     tried (check (s .store) state pos (buf .len)) (rejected s buf) λ end.
     let c = «ctx_range» state (pos .offset) end in
     let first = «first_piece» state (pos .offset) buf in
-    issuedWith (λ raw. refused raw c) (issue s (WriteAt (first .offset) (first .buf)) tag (Page (pos .offset) end) handle durable (first .split) queue)
+    issuedWith (λ raw. refused raw c) (issue s (WriteAt (first .offset) (first .buf)) tag (Kind.Page (pos .offset) end) handle durable
+    (first .split) queue)
 
 -- `Submitter::read`
 unfoldable pub readError : ErrorContext → Option RawError → Error
-readError c (some raw) = Io readOp (raw .raw) c
+readError c (some raw) = Io Op.Read (raw .raw) c
 readError c none = «not_written» QueueFull c
 
 unfoldable pub read : Submitter → ℕ → Position → IoBuf → ℕ → Submitted → Submitter × Issued
@@ -531,13 +597,15 @@ read s handle offset buf tag queue =
     (pick (not (eqb (offset .0 % block) 0) || not (eqb (len % block) 0)) (rejected s buf («not_written» Misaligned c))
     (pick (not (ltb (offset .0 + len) (2 ^ 64) && leb (offset .0 + len) (state .map .dataLength))) (rejected s buf («not_written» OutOfBounds c))
     (let first = «first_piece» state offset buf in
-    issuedWith (readError c) (issue s (ReadAt (first .offset) (first .buf)) tag (Reads offset (positionOf (offset .0 + len))) handle false (first .split) queue))))
+    issuedWith (readError c) (issue s (ReadAt (first .offset) (first .buf)) tag (Kind.Read offset (positionOf (offset .0 + len))) handle false
+    (first .split) queue))))
 
 -- `Submitter::read_page`
 unfoldable pub «read_page» : Submitter → ℕ → RegionPos → IoBuf → ℕ → Submitted → Submitter × Issued
 «read_page» s handle pos buf tag queue =
     let state = getD (s .store .regions) handle noRegion in
     let c = ctx state in
-    pick (not (eqb (pos .volume) (s .store .settings .volume)) || not (eqb (pos .region) (state .id))) (rejected s buf («not_written» ForeignPosition c))
+    pick (not (eqb (pos .volume) (s .store .settings .volume)) || not (eqb (pos .region) (state .id)))
+    (rejected s buf («not_written» ForeignPosition c))
     (pick (not (eqb (pos .generation) (state .generation))) (rejected s buf («not_written» StaleGeneration c))
     (read s handle (pos .offset) buf tag queue))

@@ -1,7 +1,7 @@
--- The Rust's functions over whole histories: what the Rust is handed for the events of a history in the domain of the comparison, its functions run over that from its
--- own opening, and the theorem that they leave `step`'s table and hand back what `step` replies, in order.
--- Where the queue refuses a first piece, one call of the Rust is two events: the submission, and the refusal that comes next. A lookup hands the Rust nothing here:
--- the Rust's `order` and `mark` are left out (Table).
+-- The Rust's functions over whole histories: what the Rust is handed for the events of a history in the domain of the comparison, its functions run
+-- over that from its own opening, and the theorem that they leave `step`'s table and hand back what `step` replies, in order. Where the queue refuses
+-- a first piece, one call of the Rust is two events: the submission, and the refusal that comes next. A lookup hands the Rust nothing here: the
+-- Rust's `order` and `mark` are left out (Table).
 use mathlib.Core.Path.{_≡_}
 use mathlib.Core.Bool.{Bool, true, false, _&&_}
 use mathlib.Core.List.{List, [], _∷_, _++_, map}
@@ -10,31 +10,33 @@ use Prim.Native.Nat.{ℕ}
 use lib.ListN.{set}
 use Rattle.layout.specs.Pick.{pick}
 use Rattle.domain.specs.declared.FirstCause.{FirstCause}
-use Rattle.domain.specs.declared.Poisoned.the-variants.{Never}
+use Rattle.domain.specs.declared.Poisoned.the-variants as Poisoned
 use Rattle.domain.specs.Domain.{firstKept}
 use Rattle.platform.specs.declared.Answer.{Answer}
-use Rattle.platform.specs.declared.Answer.the-variants.{Count, Error as Failed, Refused, RefusedWith}
+use Rattle.platform.specs.declared.Answer.the-variants as Answer
 use Rattle.completion.specs.declared.Reply.{Reply}
 use Rattle.model.specs.declared.Opening.{Opening}
 use Rattle.model.specs.declared.Lengths.{Lengths}
-use Rattle.model.specs.declared.Call.the-variants.{Write, ReadPage, Answer as Answers, Flushed as FlushedCall, Take, SetGate, SetReadOnly, SetForced, ReportPoison}
+use Rattle.model.specs.declared.Call.the-variants as Call
 use Rattle.model.specs.State.{Region, State}
 use Rattle.model.specs.Opening.{Plan, atFirst}
 use Rattle.step.specs.Questions.{regionAt}
 use Rattle.step.specs.Step.{withGate, withReadOnly, withForced}
-use Rattle.step.specs.Laws.{Made, Made.calls, Made.looks, Event, leave, next, replyTo, run}
+use Rattle.step.specs.Run.{Made, Made.calls, Made.looks, Event, leave, next, replyTo, run, Start, plansOf, openedBy}
 use Rattle.step.specs.Alone.{tagGiven}
 use Rattle.step.specs.Lists.{HostMay}
-use Rattle.step.specs.Demand3.{Start, plansOf, openedBy}
-use Rattle.rusttable.specs.Table.{Result, Result.Ok, Result.Err, IoBuf, RawError, RawResult, Flushed, Completion, Finish, Submitter, RegionPos, Submitted, Submitted.Taken, Submitted.Refused as QueueRefuses, Issued}
-use Rattle.rusttable.specs.Functions.{isSome, returned, withTable, withStore, finish as rustFinish, «refused_next», flushed as rustFlushed, next as rustNext, write as rustWrite, «read_page», new as rustNew}
+use Rattle.rusttable.specs.Table.{Result, Result.Ok, Result.Err, IoBuf, RawError, RawResult, Flushed, Completion, Finish, Submitter, RegionPos}
+use Rattle.rusttable.specs.Table.{Submitted, Submitted.Taken, Submitted.Refused as QueueRefuses, Issued}
+use Rattle.rusttable.specs.Functions.{isSome, returned, withTable, withStore, finish as rustFinish, «refused_next», flushed as rustFlushed}
+use Rattle.rusttable.specs.Functions.{next as rustNext, write as rustWrite, «read_page», new as rustNew}
 use Rattle.rusttable.specs.Domain.{InDomain}
 use Rattle.rusttable.specs.AsStep.{bufOf, submitterOf, inFlight, flushedOf, posOf, finishAs, frontAs, issuedAs}
 
 -- ---- the Rust's run
 
--- what a function of the Rust is handed, with the queue's verdict on a first piece; with an answer goes how many flushes were issued by then, which the Rust's domain
--- counts itself. gate.rs and lifecycle.rs are not in docs/src: a setting puts a region's record with its new mark, and a report poison, into the store.
+-- what a function of the Rust is handed, with the queue's verdict on a first piece; with an answer goes how many flushes were issued by then, which
+-- the Rust's domain counts itself. gate.rs and lifecycle.rs are not in docs/src: a setting puts a region's record with its new mark, and a report
+-- poison, into the store.
 pub data Handed : Type 0 where
   ToWrite : ℕ → RegionPos → IoBuf → Bool → ℕ → Submitted → Handed
   ToReadPage : ℕ → RegionPos → IoBuf → ℕ → Submitted → Handed
@@ -61,8 +63,26 @@ rustStep r (ToFinish qtag buf result issued) = let z = rustFinish (withIssued r 
 rustStep r (ToRefusedNext qtag buf raw issued) = let z = «refused_next» (withIssued r issued) qtag buf raw in (z .0, finishes (z .1) ∷ [])
 rustStep r (ToFlushed qtag result) = (rustFlushed r qtag result, [])
 rustStep r ToNext = let z = rustNext (r .table) in (withTable r (z .table), takes (z .front) ∷ [])
-rustStep r (ToRegion handle g) = (withStore r (record { settings = r .store .settings; regions = set (r .store .regions) handle g; poison = r .store .poison; issued = r .store .issued }), [])
-rustStep r (ToPoison cause) = (withStore r (record { settings = r .store .settings; regions = r .store .regions; poison = firstKept (r .store .poison) cause; issued = r .store .issued }), [])
+rustStep r (ToRegion handle g) = (
+  withStore r (record {
+    settings = r .store .settings;
+    regions = set
+        (r .store .regions) handle g;
+    poison = r .store .poison;
+    issued = r .store .issued;
+  }),
+  [],
+)
+rustStep r (ToPoison cause) = (
+  withStore r (record {
+    settings = r .store .settings;
+    regions = r .store .regions;
+    poison = firstKept
+        (r .store .poison) cause;
+    issued = r .store .issued;
+  }),
+  [],
+)
 
 unfoldable pub rustRun : Submitter → List Handed → Submitter × List HandedBack
 rustRun r [] = (r, [])
@@ -70,27 +90,28 @@ rustRun r (h ∷ hs) = let z = rustStep r h in let behind = rustRun (z .0) hs in
 
 -- "At first gates are open, no region is read-only or forced, nothing is poisoned"
 unfoldable pub rustOpened : Opening → List Plan → Submitter
-rustOpened o plans = record { store = record { settings = o; regions = map atFirst plans; poison = Never; issued = 0 }; table = rustNew (o .depth) }
+rustOpened o plans =
+    record { store = record { settings = o; regions = map atFirst plans; poison = Poisoned.Never; issued = 0 }; table = rustNew (o .depth) }
 
 -- ---- what the events of a history hand it
 
 -- an answer as the Rust has it: a result, or a refusal
 unfoldable pub asRust : Answer → Result RawResult (Option RawError)
-asRust (Count n) = Ok (Ok n)
-asRust (Failed e media) = Ok (Err (record { raw = e; media = media }))
-asRust Refused = Err none
-asRust (RefusedWith e media) = Err (some (record { raw = e; media = media }))
+asRust (Answer.Count n) = Ok (Ok n)
+asRust (Answer.Error e media) = Ok (Err (record { raw = e; media = media }))
+asRust Answer.Refused = Err none
+asRust (Answer.RefusedWith e media) = Err (some (record { raw = e; media = media }))
 
 unfoldable pub isSubmission : Made → Bool
-isSubmission (calls (Write q)) = true
-isSubmission (calls (ReadPage q)) = true
-isSubmission (calls (Answers t a back flushes)) = false
-isSubmission (calls (FlushedCall t result)) = false
-isSubmission (calls Take) = false
-isSubmission (calls (SetGate h x)) = false
-isSubmission (calls (SetReadOnly h x)) = false
-isSubmission (calls (SetForced h x)) = false
-isSubmission (calls (ReportPoison cause)) = false
+isSubmission (calls (Call.Write q)) = true
+isSubmission (calls (Call.ReadPage q)) = true
+isSubmission (calls (Call.Answer t a back flushes)) = false
+isSubmission (calls (Call.Flushed t result)) = false
+isSubmission (calls Call.Take) = false
+isSubmission (calls (Call.SetGate h x)) = false
+isSubmission (calls (Call.SetReadOnly h x)) = false
+isSubmission (calls (Call.SetForced h x)) = false
+isSubmission (calls (Call.ReportPoison cause)) = false
 isSubmission (looks x) = false
 
 -- the queue's refusal, if an event is one, and whether the buffer comes back
@@ -99,15 +120,15 @@ refusal (Ok result) back = none
 refusal (Err raw) back = some (raw, back)
 
 unfoldable pub refusedBy : Made → Option (Option RawError × Bool)
-refusedBy (calls (Write q)) = none
-refusedBy (calls (ReadPage q)) = none
-refusedBy (calls (Answers t a back flushes)) = refusal (asRust a) back
-refusedBy (calls (FlushedCall t result)) = none
-refusedBy (calls Take) = none
-refusedBy (calls (SetGate h x)) = none
-refusedBy (calls (SetReadOnly h x)) = none
-refusedBy (calls (SetForced h x)) = none
-refusedBy (calls (ReportPoison cause)) = none
+refusedBy (calls (Call.Write q)) = none
+refusedBy (calls (Call.ReadPage q)) = none
+refusedBy (calls (Call.Answer t a back flushes)) = refusal (asRust a) back
+refusedBy (calls (Call.Flushed t result)) = none
+refusedBy (calls Call.Take) = none
+refusedBy (calls (Call.SetGate h x)) = none
+refusedBy (calls (Call.SetReadOnly h x)) = none
+refusedBy (calls (Call.SetForced h x)) = none
+refusedBy (calls (Call.ReportPoison cause)) = none
 refusedBy (looks x) = none
 
 -- an event refuses a first piece: "a piece that the queue refuses is refused before any other call", so the event before submitted it
@@ -130,15 +151,15 @@ answerTo after s t back flushes (Err raw) = pick after [] (ToRefusedNext t (retu
 
 -- what an event hands the Rust, where the one before was a submission or not, and with the queue's verdict on what it submits
 unfoldable pub handedBy : Bool → State → Made → Submitted → List Handed
-handedBy after s (calls (Write q)) queue = ToWrite (q .handle) (posOf q) (bufOf s (q .buffer) (q .length)) (q .durable) (q .tag) queue ∷ []
-handedBy after s (calls (ReadPage q)) queue = ToReadPage (q .handle) (posOf q) (bufOf s (q .buffer) (q .length)) (q .tag) queue ∷ []
-handedBy after s (calls (Answers t a back flushes)) queue = answerTo after s t back flushes (asRust a)
-handedBy after s (calls (FlushedCall t result)) queue = ToFlushed t (flushedOf result) ∷ []
-handedBy after s (calls Take) queue = ToNext ∷ []
-handedBy after s (calls (SetGate h x)) queue = ToRegion h (withGate (regionAt s h) x) ∷ []
-handedBy after s (calls (SetReadOnly h x)) queue = ToRegion h (withReadOnly (regionAt s h) x) ∷ []
-handedBy after s (calls (SetForced h x)) queue = ToRegion h (withForced (regionAt s h) x) ∷ []
-handedBy after s (calls (ReportPoison cause)) queue = ToPoison cause ∷ []
+handedBy after s (calls (Call.Write q)) queue = ToWrite (q .handle) (posOf q) (bufOf s (q .buffer) (q .length)) (q .durable) (q .tag) queue ∷ []
+handedBy after s (calls (Call.ReadPage q)) queue = ToReadPage (q .handle) (posOf q) (bufOf s (q .buffer) (q .length)) (q .tag) queue ∷ []
+handedBy after s (calls (Call.Answer t a back flushes)) queue = answerTo after s t back flushes (asRust a)
+handedBy after s (calls (Call.Flushed t result)) queue = ToFlushed t (flushedOf result) ∷ []
+handedBy after s (calls Call.Take) queue = ToNext ∷ []
+handedBy after s (calls (Call.SetGate h x)) queue = ToRegion h (withGate (regionAt s h) x) ∷ []
+handedBy after s (calls (Call.SetReadOnly h x)) queue = ToRegion h (withReadOnly (regionAt s h) x) ∷ []
+handedBy after s (calls (Call.SetForced h x)) queue = ToRegion h (withForced (regionAt s h) x) ∷ []
+handedBy after s (calls (Call.ReportPoison cause)) queue = ToPoison cause ∷ []
 handedBy after s (looks x) queue = []
 
 unfoldable pub handed : Bool → State → List Event → List Handed
@@ -158,15 +179,17 @@ answerSays after z (Err raw) = pick after [] (Option·map finishes (finishAs (z 
 
 -- none, where the Rust has no such value
 unfoldable pub saidBy : Bool → State → Made → State × Reply → List Event → List (Option HandedBack)
-saidBy after s (calls (Write q)) z es = Option·map submits (issuedAs true (comesTo z es .0) (bufOf s (q .buffer) (q .length)) (comesTo z es .1)) ∷ []
-saidBy after s (calls (ReadPage q)) z es = Option·map submits (issuedAs false (comesTo z es .0) (bufOf s (q .buffer) (q .length)) (comesTo z es .1)) ∷ []
-saidBy after s (calls (Answers t a back flushes)) z es = answerSays after z (asRust a)
-saidBy after s (calls (FlushedCall t result)) z es = []
-saidBy after s (calls Take) z es = Option·map takes (frontAs (z .0) (z .1)) ∷ []
-saidBy after s (calls (SetGate h x)) z es = []
-saidBy after s (calls (SetReadOnly h x)) z es = []
-saidBy after s (calls (SetForced h x)) z es = []
-saidBy after s (calls (ReportPoison cause)) z es = []
+saidBy after s (calls (Call.Write q)) z es =
+    Option·map submits (issuedAs true (comesTo z es .0) (bufOf s (q .buffer) (q .length)) (comesTo z es .1)) ∷ []
+saidBy after s (calls (Call.ReadPage q)) z es =
+    Option·map submits (issuedAs false (comesTo z es .0) (bufOf s (q .buffer) (q .length)) (comesTo z es .1)) ∷ []
+saidBy after s (calls (Call.Answer t a back flushes)) z es = answerSays after z (asRust a)
+saidBy after s (calls (Call.Flushed t result)) z es = []
+saidBy after s (calls Call.Take) z es = Option·map takes (frontAs (z .0) (z .1)) ∷ []
+saidBy after s (calls (Call.SetGate h x)) z es = []
+saidBy after s (calls (Call.SetReadOnly h x)) z es = []
+saidBy after s (calls (Call.SetForced h x)) z es = []
+saidBy after s (calls (Call.ReportPoison cause)) z es = []
 saidBy after s (looks x) z es = []
 
 unfoldable pub said : Bool → State → List Event → List (Option HandedBack)
@@ -175,8 +198,8 @@ said after s (e ∷ es) = saidBy after (leave s (e .leaves)) (e .made) (next s e
 
 -- ---- the claim
 
--- a history in the domain: every call is, with the tag that the reply before it issued, and the host writes only as document 01 allows. The Rust learns of a refused
--- first piece within the call that submits it, so there nothing is written between the two events.
+-- a history in the domain: every call is, with the tag that the reply before it issued, and the host writes only as document 01 allows. The Rust
+-- learns of a refused first piece within the call that submits it, so there nothing is written between the two events.
 unfoldable pub MadeIn : Option ℕ → State → Lengths → Made → Type 0
 MadeIn before s l (calls c) = InDomain before s l c
 MadeIn before s l (looks x) = Unit {0}

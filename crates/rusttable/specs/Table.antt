@@ -1,8 +1,8 @@
--- The Rust's data as values: what store-io's optable.rs, completion.rs and submitter/mod.rs hold (commit a84d392376), field by field and under its names.
--- A reference to a region (`Arc<LiveRegion>`, and the `OwnedPass` that a row keeps) is the region's handle. A position or an offset is the number that the
--- Rust has, in this repository's types. `Option<OsError>` is the crate domain's OsError, `Option<Op>` its Op.
--- Left out: `order`, `mark`, `asks`, `flushing`, `asked`, wakers, counters; appends (`Kind::Append`, `prefix`) and barriers (`Kind::Sync`, `Kind::All`,
--- `Done::Synced`), `Kind::Raw`.
+-- The Rust's data as values: what store-io's optable.rs, completion.rs and submitter/mod.rs hold (commit a84d392376), field by field and under its
+-- names. A reference to a region (`Arc<LiveRegion>`, and the `OwnedPass` that a row keeps) is the region's handle. A position or an offset is the
+-- number that the Rust has, in this repository's types. `Option<OsError>` is the crate domain's OsError, `Option<Op>` its Op. Left out: `order`,
+-- `mark`, `asks`, `flushing`, `asked`, wakers, counters; appends (`Kind::Append`, `prefix`) and barriers (`Kind::Sync`, `Kind::All`, `Done::Synced`),
+-- `Kind::Raw`.
 use mathlib.Core.Bool.{Bool}
 use mathlib.Core.List.{List}
 use mathlib.Core.Option.{Option}
@@ -24,8 +24,8 @@ pub data Result (A : Type 0) (E : Type 0) : Type 0 where
   Ok : A → Result A E
   Err : E → Result A E
 
--- store_io_buf's IoBuf (not in docs/src): which buffer of the pool it is, its length, and the bytes of its whole capacity. `as_mut_slice` is the first `len`
--- of them.
+-- store_io_buf's IoBuf (not in docs/src): which buffer of the pool it is, its length, and the bytes of its whole capacity. `as_mut_slice` is the
+-- first `len` of them.
 pub record IoBuf : Type 0 where
   pub number : ℕ
   pub len : ℕ
@@ -112,8 +112,8 @@ pub record Row : Type 0 where
   pub generation : ℕ
   pub live : Option Live
 
--- `free` is a Vec whose last element is popped and behind which one is pushed: here its last element stands first, so `pop` takes the list's head and `push`
--- puts one before it. `ready` is a VecDeque, its front first.
+-- `free` is a Vec whose last element is popped and behind which one is pushed: here its last element stands first, so `pop` takes the list's head and
+-- `push` puts one before it. `ready` is a VecDeque, its front first.
 pub record Table : Type 0 where
   pub rows : List Row
   pub free : List ℕ
@@ -129,16 +129,16 @@ pub data Finish : Type 0 where
 
 -- ---- what a Submitter holds
 
--- store.rs's Inner: the settings (volume, block, policy, read-only, epoch, the pool's numbers), the regions (LiveRegion: id, generation, map, gate, read-only,
--- force_sync) and of the domain its poison and how many flushes were issued
+-- store.rs's Inner: the settings (volume, block, policy, read-only, epoch, the pool's numbers), the regions (LiveRegion: id, generation, map, gate,
+-- read-only, force_sync) and of the domain its poison and how many flushes were issued
 pub record Store : Type 0 where
   pub settings : Opening
   pub regions : List Region
   pub poison : Poison
   pub issued : ℕ
 
--- submitter/mod.rs's Submitter: its store, and of queue_core.rs's Core the table. The queue is the caller: what it is handed is a result, what it answers an
--- argument.
+-- submitter/mod.rs's Submitter: its store, and of queue_core.rs's Core the table. The queue is the caller: what it is handed is a result, what it
+-- answers an argument.
 pub record Submitter : Type 0 where
   pub store : Store
   pub table : Table

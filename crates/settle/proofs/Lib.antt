@@ -1,2 +1,3 @@
--- What the proofs of this crate share.
+-- What the proofs of a piece's end, and those of an answer and of a flush result, share.
 pub mod Settling
+pub mod Finishing

@@ -25,7 +25,7 @@ use Rattle.completion.specs.declared.Outcome.{Outcome}
 use Rattle.completion.specs.declared.Buffer.{Buffer}
 use Rattle.model.specs.declared.Opening.{Opening}
 use Rattle.model.specs.declared.Kind.the-variants.{Page}
-use Rattle.liveregion.specs.declared.LiveRegion.{LiveRegion}
+use Rattle.memory.specs.declared.liveregion.LiveRegion.{LiveRegion}
 use Rattle.step.specs.Rules.{Fate, Fate.ends, firstOf, lastOf, ticketOf}
 use Rattle.settle.specs.Finished.{planWith}
 
@@ -76,8 +76,8 @@ no-count P error refused with (RefusedWith e media) w = with e media
 -- ---- ends
 
 -- two ends of the same cause are the same where their parts are
-pub same-end : {x y : Outcome} {b d : Buffer} {l k : List ℕ} {cause : Option FirstCause} → x ≡ y → b ≡ d → l ≡ k → _≡_ {A = Fate} (ends x b l cause) (ends y d k cause)
-same-end {cause = cause} p q r = λ i. ends (p i) (q i) (r i) cause
+pub same-end : {x y : Outcome} {b d : Buffer} {l k : List ℕ} {cause : Option FirstCause} → x ≡ y → b ≡ d → l ≡ k → _≡_ {A = Fate} (ends (record { outcome = x; buffer = b; bytes = l; cause = cause })) (ends (record { outcome = y; buffer = d; bytes = k; cause = cause }))
+same-end {cause = cause} p q r = λ i. ends (record { outcome = p i; buffer = q i; bytes = r i; cause = cause })
 
 -- ---- tickets
 

@@ -1,4 +1,4 @@
--- What the functions on values give, beside the rules of the crate step: a turn is told by its numbers, and the rules' fate follows from it and the bytes.
+-- What the functions on values give, beside step's rules: a turn is told by its numbers, and the rules' fate follows from it and the bytes.
 use mathlib.Core.Path.{_≡_}
 use mathlib.Core.List.{List}
 use mathlib.Core.Option.{Option, none, some}
@@ -14,7 +14,7 @@ use Rattle.model.specs.declared.Split.{Split}
 use Rattle.model.specs.declared.Awaits.{Awaits}
 use Rattle.model.specs.declared.Awaits.the-variants.{Nothing, Piece, Flush}
 use Rattle.model.specs.Opening.{Plan}
-use Rattle.liveregion.specs.declared.LiveRegion.{LiveRegion}
+use Rattle.memory.specs.declared.liveregion.LiveRegion.{LiveRegion}
 use Rattle.step.specs.Rules.{pieceLength, Fate, Fate.away, Fate.awaits, Fate.ends, Fate.rejected}
 use Rattle.settle.specs.declared.Turn.{Turn}
 use Rattle.settle.specs.declared.Finished.{Finished}
@@ -33,7 +33,7 @@ turnedBy t bytes = turned (t .total) (t .by) bytes
 unfoldable pub fateBy : Finished → List ℕ → Fate
 fateBy (Away f) bytes = away f
 fateBy (Next a t) bytes = awaits a (turnedBy t bytes)
-fateBy (Ended o b t c) bytes = ends o b (turnedBy t bytes) (causeIs c)
+fateBy (Ended e) bytes = ends (record { outcome = e .outcome; buffer = e .buf; bytes = turnedBy (e .turn) bytes; cause = causeIs (e .cause) })
 fateBy (Rejected e b) bytes = rejected e b bytes
 
 -- a region's numbers with a map
@@ -47,7 +47,8 @@ CountFits s (Error e media) = Unit {0}
 CountFits s Refused = Unit {0}
 CountFits s (RefusedWith e media) = Unit {0}
 
--- what is supposed of a piece under way, as a sound table has it: the piece's length is the map's, done + piece a number of 64 bits, and the region's generation one of 32
+-- what is supposed of a piece under way, as a sound table has it: the piece's length is the map's, done + piece a number of 64 bits, and the
+-- region's generation one of 32
 unfoldable pub PieceFits : LiveRegion → Map → ℕ → Awaits → Type 0
 PieceFits g m piece Nothing = Unit {0}
 PieceFits g m piece (Piece k s) = (piece ≡ pieceLength (planWith g m) k s) × (s .done + piece < 2 ^ 64) × (g .generation < 2 ^ 32)

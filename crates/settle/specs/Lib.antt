@@ -1,1 +1,2 @@
+-- What becomes of an operation, as a value, against step's rules.
 pub mod Finished

@@ -1,7 +1,18 @@
-// What becomes of an operation, as a value, and what its end is made of (store-io's settle.rs as document 01 restates it; optable.rs: Finish). Each function
-// but the first is the definition of its name in the crate step's Rules.
+// What becomes of an operation when its answer or its flush result arrives, as a value: no word and no byte is touched here (store-io's
+// settle.rs as document 01 restates it; optable.rs: Finish). Each function is the definition of its name in step's Rules.
+//
+// answer     what is asked of a piece's answer before the operation ends with it
+// conclude   a write that is written
+// finish     an answer
+// flushed    a flush result
+// lastpiece  the end with the last piece
+pub mod answer;
+pub mod conclude;
+pub mod finish;
+pub mod flushed;
+pub mod lastpiece;
+
 ghost use mathlib.Core.Path.{_≡_};
-ghost use mathlib.Core.Bool.{_&&_};
 ghost use mathlib.Core.List.{List};
 ghost use Prim.Native.Nat.{ℕ, _-_};
 ghost use Rattle.step.specs.Rules.{errorOf, bufferAs, turnedBack};
@@ -21,31 +32,21 @@ pub struct Turn {
     pub by: u64,
 }
 
-// What becomes of an operation (Finish of optable.rs, where a function has the name too): turned away; it awaits its next piece or its flush; it is complete, and may poison the store; its
-// first piece is refused.
-pub enum Finished {
-    Away(Refusal),
-    Next {
-        awaits: Awaits,
-        turn: Turn,
-    },
-    Ended {
-        outcome: Outcome,
-        buf: Buffer,
-        turn: Turn,
-        cause: Poisoned,
-    },
-    Rejected {
-        raw: OsError,
-        buf: Buffer,
-    },
+// What ends an operation: its outcome, its buffer, how the bytes there turn, and the cause with which the store is poisoned, if any.
+pub struct End {
+    pub outcome: Outcome,
+    pub buf: Buffer,
+    pub turn: Turn,
+    pub cause: Poisoned,
 }
 
-// Both hold.
-pub fn both(a: bool, b: bool) -> bool
-    ensures { λ r. ⌜ r ≡ (a && b) ⌝ }
-{
-    if a { b } else { false }
+// What becomes of an operation (Finish of optable.rs, where a function has the name too): turned away; it awaits its next piece or its flush; it
+// is complete, and may poison the store; its first piece is refused.
+pub enum Finished {
+    Away(Refusal),
+    Next { awaits: Awaits, turn: Turn },
+    Ended(End),
+    Rejected { raw: OsError, buf: Buffer },
 }
 
 // The OS error of an answer, if there was one.

@@ -12,7 +12,8 @@ use Rattle.model.specs.declared.Request.{Request}
 use Rattle.model.specs.State.{Owner, Owner.host, Owner.table, Owner.lost, State, awaiting}
 use Rattle.step.specs.Questions.{isHost, regionAt, heldAt}
 use Rattle.step.specs.Step.{begun, topOf, rowAt, claimedBy, oneMore, accepted}
-use Rattle.step.specs.Sound.{rowHolds, readyHold, tableHas, rangeStart, rangeEnd, SplitFits, TicketFits, InTable, Sound}
+use Rattle.step.specs.Sound.{rowHolds, readyHold, tableHas, SplitFits, TicketFits, InTable, Sound}
+use Rattle.step.specs.Rules.{rangeStart, rangeEnd}
 use Rattle.step.proofs.Answers.{Passed}
 use Rattle.step.proofs.Places.{by-place}
 use Rattle.step.proofs.Counts.{holds-none, holds-own, holds-other}

@@ -140,7 +140,7 @@ module _ (s : State) (t : ℕ) (r : Row) (named : names r t ≡ true) (here : ro
   settled-asks (awaits a bytes) e live =
       let z = row-then (going s (rowOf t) r a bytes) (awaitsNow r a) refl in
       λ j. asksFor (planOf (regionAt s (sym z j .handle))) t (sym z j .buffer) (sym z j .awaits)
-  settled-asks (ends o b bytes cause) e live = absurd (gone _ _ refl live)
+  settled-asks (ends ending) e live = absurd (gone _ _ refl live)
   settled-asks (rejected x b bytes) e live = absurd (gone _ _ refl live)
 
 answer-asks : (s : State) (l : Lengths) (t : ℕ) (a : Answer) (back : Bool) (flushes : ℕ) → AsksIt t (step s l (answer t a back flushes))

@@ -63,7 +63,7 @@ module _ (s : State) where
   unfolding settled Fitting isAway
   settled-away t r (away f) w g e = refl
   settled-away t r (awaits a bytes) w g e = absurd (never _ g (asks (planOf (regionAt s (r .handle))) t (r .buffer) a) e)
-  settled-away t r (ends o b bytes cause) w g e = absurd (never _ g refl e)
+  settled-away t r (ends ending) w g e = absurd (never _ g refl e)
   settled-away t r (rejected x b bytes) w g e = absurd (never _ g (rejects (planOf (regionAt s (r .handle))) (r .awaits) x b (w .0)) e)
 
   under-away : (t : ℕ) (i : Input) → Unchanged (underTag s t i)

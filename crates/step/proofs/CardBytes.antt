@@ -23,9 +23,9 @@ use Rattle.model.specs.declared.Row.{Row}
 use Rattle.model.specs.State.{State}
 use Rattle.model.specs.Opening.{Plan}
 use Rattle.step.specs.Questions.{regionAt}
-use Rattle.step.specs.Rules.{Input, firstOf, pieceOf, pieceLength}
+use Rattle.step.specs.Rules.{Input, firstOf, pieceOf, pieceLength, rangeStart, rangeEnd}
 use Rattle.step.specs.Step.{rowAt, isLive, planOf}
-use Rattle.step.specs.Sound.{rangeStart, rangeEnd, SplitFits, InTable, Sound}
+use Rattle.step.specs.Sound.{SplitFits, InTable, Sound}
 use Rattle.step.specs.Lists.{loose, planAt, takesWhole, wroteBy}
 use Rattle.step.specs.Demand3.{Mapped, isWrite}
 use Rattle.step.specs.Demand2.{InPiece, BeingWritten}

@@ -20,16 +20,14 @@ use Rattle.model.specs.declared.Awaits.the-variants.{Nothing, Piece, Flush}
 use Rattle.model.specs.declared.Kind.the-variants.{Page, Read}
 use Rattle.model.specs.declared.Row.{Row}
 use Rattle.model.specs.State.{State}
-use Rattle.model.specs.Opening.{Plan}
-use Rattle.model.specs.Memory.{planIn}
+use Rattle.model.specs.Opening.{Plan, planIn}
 use Rattle.step.specs.Questions.{regionAt}
-use Rattle.step.specs.Rules.{Input}
+use Rattle.step.specs.Rules.{Input, rangeStart, rangeEnd}
 use Rattle.step.specs.Step.{queueTag, rowAt, rowOf, generationOf, raised, isLive, names, bytesAt, planOf}
-use Rattle.step.specs.Sound.{rangeStart, rangeEnd}
-use Rattle.step.specs.Laws.{Event, leave, next, replyTo}
+use Rattle.step.specs.Run.{Event, leave, next, replyTo, Start, plansOf}
 use Rattle.step.specs.Lists.{brought, isAway, planAt, leftIn, Given, givenAs, givenBy, given, wroteBy, tagIn, cardBy, cardAfter, HostMay}
 use Rattle.step.specs.Alone.{Course, Course.isOpen, Course.completed, Course.wasRefused, Alones}
-use Rattle.step.specs.Demand3.{Start, plansOf, Mapped, isWrite, Fits}
+use Rattle.step.specs.Demand3.{Mapped, isWrite, Fits}
 use Rattle.step.proofs.AloneTags.{clash, freed-dead, tag-of, names-live, names-generation}
 use Rattle.step.proofs.CardBytes.{wrote-byte, wrote-alike, wrote-none, wrote-away}
 use Rattle.step.proofs.ListsBrought.{brings}
@@ -104,7 +102,7 @@ module _ (x : Start) where
 
 module _ (x : Start) (forced : ℕ → Bool) (first : Poisoned) (y : ℕ) where
   unfoldable pub byteOf : Course → Given → ℕ → ℕ
-  byteOf (isOpen r bytes) v old = wroteBy (getD (plansOf x) (r .handle) (planIn [])) (r .awaits) bytes (some (v .0)) (λ z. old) y
+  byteOf (isOpen g r bytes) v old = wroteBy g (r .awaits) bytes (some (v .0)) (λ z. old) y
   byteOf (completed c) v old = old
   byteOf wasRefused v old = old
 
@@ -128,17 +126,17 @@ module _ (x : Start) (s : State) (a : Alones) (k : Reached x s a) (e : Event) (w
   -- to its own operation
   own-byte : (t : ℕ) (i : Input) → brought t (e .made) ≡ some i → isAway (replyTo s e) ≡ false → (c : Course) → a .ops t ≡ some c → (left : List ℕ) → writes t (some i) y ≡ byteOf x forced first y c (i, left) (card y)
   unfolding byteOf rowAt leave planAt regionAt
-  own-byte t i bt heard (isOpen r bytes) op left =
-      let z = k .projected .only t r bytes op in
+  own-byte t i bt heard (isOpen g r bytes) op left =
+      let z = k .projected .only t g r bytes op in
       let row = rowAt s (rowOf t) in
       let k₁ = reached-left x s a k (e .leaves) w in
       let m = met x s₁ (k₁ .sound) (k₁ .fixed) a (k₁ .projected) t (z .0) i in
       let same : m .bytes ≡ bytes = let q = sym (m .is-open) ∙ op in cc in
       wrote-byte (planAt s row) (row .awaits) (bytesAt s₁ (row .buffer)) (some i) card y
       ∙ ap (λ (after : Card). after y) (sym (wrote-alike (planAt s row) (row .awaits) (m .bytes) (bytesAt s₁ (row .buffer)) (some i) (λ q. card y) (m .alike .same)))
-      ∙ (λ j. wroteBy (k .fixed .plans (z .1 j .handle) j) (z .1 j .awaits) (same j) (some i) (λ q. card y) y)
-  own-byte t i bt heard (completed c) op left = absurd (not-both (steps-alone x s a k e w t i bt .none-open (λ r bytes z. clash (let q = sym op ∙ z in cc)) .0) heard)
-  own-byte t i bt heard wasRefused op left = absurd (not-both (steps-alone x s a k e w t i bt .none-open (λ r bytes z. clash (let q = sym op ∙ z in cc)) .0) heard)
+      ∙ (λ j. wroteBy ((ap (planAt s) (z .1) ∙ z .2) j) (z .1 j .awaits) (same j) (some i) (λ q. card y) y)
+  own-byte t i bt heard (completed c) op left = absurd (not-both (steps-alone x s a k e w t i bt .none-open (λ g r bytes z. clash (let q = sym op ∙ z in cc)) .0) heard)
+  own-byte t i bt heard wasRefused op left = absurd (not-both (steps-alone x s a k e w t i bt .none-open (λ g r bytes z. clash (let q = sym op ∙ z in cc)) .0) heard)
 
   module _ (r g t : ℕ) (at : rowOf t ≡ r) (gen : generationOf t ≡ g) (clear : Clear (λ j. j ≢ r) s y) (turned : Turned g (rowAt s r)) where
     -- another tag names another row

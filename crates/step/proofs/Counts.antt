@@ -15,7 +15,8 @@ use Rattle.completion.specs.declared.Buffer.the-variants.{Back}
 use Rattle.completion.specs.declared.Completion.{Completion}
 use Rattle.model.specs.declared.Row.{Row}
 use Rattle.model.specs.State.{Owner, Owner.host, Owner.table, Owner.lost, freed, upFrom, awaiting, liveRows}
-use Rattle.step.specs.Sound.{times, rowHolds, rowsHold, holds, readyHold, tableHas}
+use Rattle.step.specs.Sound.{rowHolds, rowsHold, holds, readyHold, tableHas}
+use Rattle.step.specs.Lists.{times}
 
 -- ---- one row is replaced
 

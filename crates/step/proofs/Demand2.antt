@@ -11,7 +11,7 @@ use lib.Seq.{length-take-le, getD-take}
 use Rattle.layout.proofs.Tests.{not-both}
 use Rattle.regionmap.specs.Map.{Map, place, pieces}
 use Rattle.posix.specs.Posix.{Card}
-use Rattle.transfer.specs.Transfer.{gathered}
+use Rattle.posix.specs.Transfer.{gathered}
 use Rattle.completion.specs.declared.Completion.{Completion}
 use Rattle.model.specs.declared.Kind.{Kind}
 use Rattle.model.specs.declared.Kind.the-variants.{Page, Read}
@@ -21,10 +21,9 @@ use Rattle.model.specs.State.{State}
 use Rattle.step.specs.Questions.{regionAt}
 use Rattle.step.specs.Rules.{firstOf, lastOf}
 use Rattle.step.specs.Step.{startOf, endOf, rowOf, rowAt, names}
-use Rattle.step.specs.Laws.{Made, Made.calls, Event, leave, done, run, replyTo}
+use Rattle.step.specs.Run.{Made, Made.calls, Event, leave, done, run, replyTo, Start, openedBy, after}
 use Rattle.step.specs.Lists.{Completed, Hosted}
 use Rattle.step.specs.Alone.{tagGiven}
-use Rattle.step.specs.Demand3.{Start, openedBy, after}
 use Rattle.step.specs.Demand2.{Served, Accepted, bufferThen, submittedIn, PiecesDone, Over, givenTo, answersIn, getsIn, Issues, Wrote, DidRead, Followed, AllWhole, isKept, lastReply, asksUnder, Demand2}
 use Rattle.step.proofs.Histories.{keeps-next}
 use Rattle.step.proofs.Laws.{keeps}

@@ -32,10 +32,9 @@ use Rattle.step.specs.Rules.{Input, Input.answered, Input.flushed, Fate,
 use Rattle.step.specs.Step.{begun, topOf, rowAt, rowOf, names, planOf, claimedBy, awaitsNow, submitted, verdictOf, writeVerdict, readVerdict, going, freeing, asksFor, rejection, settled, fateOf, underTag, taken}
 use Rattle.step.specs.Step.{marked, withGate, withReadOnly, withForced, called, lookedUp, eqLengths, step, look}
 use Rattle.step.specs.Sound.{Sound}
-use Rattle.step.specs.Laws.{Made, Made.calls, Made.looks, Event, leave, done, next, run, replyTo}
+use Rattle.step.specs.Run.{Made, Made.calls, Made.looks, Event, leave, done, next, run, replyTo, Start}
 use Rattle.step.specs.Lists.{broughtBy, brought, planAt, HostMay}
 use Rattle.step.specs.Asked.{firstReply}
-use Rattle.step.specs.Demand3.{Start}
 use Rattle.step.specs.Demand2.{Followed, under, lastReply, asksUnder}
 use Rattle.step.proofs.Picked.{by-pick}
 use Rattle.step.proofs.AloneTags.{small-row, row-of-tag}
@@ -71,7 +70,7 @@ module _ (s : State) (sound : Sound s) (t : ℕ) (named : names (rowAt s (rowOf 
   unfolding under settled
   settled-silent u n r (away f) = refl
   settled-silent u n r (awaits a bytes) = asks-under (planOf (regionAt s (r .handle))) u t (r .buffer) a ∙ ne-eqb u t n
-  settled-silent u n r (ends o b bytes cause) = ne-eqb u t n
+  settled-silent u n r (ends ending) = ne-eqb u t n
   settled-silent u n r (rejected e b bytes) = rejection-silent (planOf (regionAt s (r .handle))) (r .awaits) e b
 
   under-silent : (u : ℕ) → u ≢ t → (i : Input) → Silent (underTag s u i)
@@ -134,7 +133,7 @@ module _ (t : ℕ) (last : Reply) where
         let now : rowAt s′ (rowOf t) ≡ awaitsNow r a = row-then s t r named refl s′ (awaitsNow r a) refl in
         ap (λ (b : Bool). pick b (asksFor (planOf (regionAt s (r .handle))) t (r .buffer) a) last) (asks-under (planOf (regionAt s (r .handle))) t t (r .buffer) a ∙ eq-eqb t t refl)
         ∙ (λ j. asksFor (planOf (regionAt s (sym now j .handle))) t (sym now j .buffer) (sym now j .awaits))
-    settled-still (ends o b bytes cause) live = absurd (gone s t (rowAt s (rowOf t)) named refl _ _ refl live)
+    settled-still (ends ending) live = absurd (gone s t (rowAt s (rowOf t)) named refl _ _ refl live)
     settled-still (rejected e b bytes) live = absurd (gone s t (rowAt s (rowOf t)) named refl _ _ refl live)
 
     own-still : (l : Lengths) (m : Made) (i : Input) → brought t m ≡ some i → StillAsks (done s l m)

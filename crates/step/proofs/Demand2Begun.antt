@@ -30,11 +30,11 @@ use Rattle.step.specs.Questions.{regionAt}
 use Rattle.step.specs.Rules.{firstOf, lastOf, pieceOf, pieceLength}
 use Rattle.step.specs.Step.{startOf, endOf, begun, durableAs, queueTag, topOf, rowAt, rowOf, generationOf, isLive, bytesAt, planOf, asksFor, claimedBy, accepted, submitted, verdictOf, writeVerdict, readVerdict, called, eqLengths, step}
 use Rattle.step.specs.Sound.{Sound}
-use Rattle.step.specs.Laws.{Made.calls, Event, leave, done, next, run}
+use Rattle.step.specs.Run.{Made.calls, Event, leave, done, next, run, Start, openedBy, after}
 use Rattle.step.specs.Lists.{HostMay, Hosted}
 use Rattle.step.specs.Asked.{firstReply}
 use Rattle.step.specs.Alone.{tagGiven}
-use Rattle.step.specs.Demand3.{Start, openedBy, after, alonesAfter}
+use Rattle.step.specs.Demand3.{alonesAfter}
 use Rattle.step.specs.Demand2.{bufferThen}
 use Rattle.step.proofs.Picked.{by-pick}
 use Rattle.step.proofs.Answers.{Passed, write-passed, read-passed}

@@ -11,8 +11,8 @@ use Rattle.regionmap.specs.Map.{Map, place}
 use Rattle.iobuf.specs.Turn.{turned}
 use Rattle.posix.specs.Posix.{Card, pread, pwrite}
 use Rattle.posix.proofs.Laws.{transfer-laws}
-use Rattle.transfer.specs.Transfer.{gathered}
-use Rattle.transfer.proofs.Turned.{turned-parts}
+use Rattle.posix.specs.Transfer.{gathered}
+use Rattle.posix.proofs.Turned.{turned-parts}
 
 -- ---- the buffer
 

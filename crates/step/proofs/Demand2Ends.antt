@@ -16,7 +16,7 @@ use Rattle.model.specs.declared.Awaits.the-variants.{Piece}
 use Rattle.model.specs.State.{State}
 use Rattle.step.specs.Rules.{firstOf}
 use Rattle.step.specs.Step.{rowAt, rowOf, names}
-use Rattle.step.specs.Laws.{Event, next, run}
+use Rattle.step.specs.Run.{Event, next, run}
 use Rattle.step.specs.Lists.{Given, givenBy, given, cardBy}
 use Rattle.step.specs.Demand2.{Served, NoPiece, PiecesDone, answersIn, ToCome}
 use Rattle.step.proofs.AloneTags.{clash}

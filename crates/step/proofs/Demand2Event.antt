@@ -39,7 +39,7 @@ use Rattle.step.specs.Questions.{regionAt}
 use Rattle.step.specs.Rules.{firstOf, pieceLength, isWhole, splitAfter, Input, Input.answered, Input.flushed, Fate, Fate.away, Fate.awaits, Fate.ends, answerRules, flushRules, flushEnds, flushOutcome, ticketOf, rules}
 use Rattle.step.specs.Step.{rowAt, rowOf, isLive, names, bytesAt, raised, awaitsNow, completionOf, poisonWith, planOf, going, freeing, settled, fateOf, underTag, eqLengths}
 use Rattle.step.specs.Sound.{Sound}
-use Rattle.step.specs.Laws.{Made, Made.calls, Made.looks, Event, leave, done, next, replyTo}
+use Rattle.step.specs.Run.{Made, Made.calls, Made.looks, Event, leave, done, next, replyTo}
 use Rattle.step.specs.Lists.{brought, isAway, planAt, leftIn, Given, givenAs, givenBy, Completed, withBytes, addedBy, isBrought, takesWhole, wroteBy, tagIn, cardBy, HostMay}
 use Rattle.step.specs.Demand2.{WholeTo, TakenWhole, Undisturbed, countOf, countGiven, resultOf, resultGiven, answersOf, answersIn, durablyTo, writtenTo}
 use Rattle.step.proofs.Picked.{by-pick}
@@ -383,18 +383,18 @@ module _ (w : Task) (s : State) (card : Card) (d given : ℕ) (o : Open w s card
           (subst (λ (l : List Given). Counts w d given l d′ n′) (sym given-is) counts)
 
       -- it completes
-      ends-with : (x : Outcome) (n : ℕ) (bytes : List ℕ) → f ≡ ends x (Back (r .buffer) n) bytes none → n ≡ w .request .length → bytes ≡ w .new ++ w .tail
+      ends-with : (x : Outcome) (n : ℕ) (bytes : List ℕ) → f ≡ ends (record { outcome = x; buffer = Back (r .buffer) n; bytes = bytes; cause = none }) → n ≡ w .request .length → bytes ≡ w .new ++ w .tail
           → (pages (w .kind) ≡ false → x ≡ readTo (w .request .length)) → (pages (w .kind) ≡ true → x ≡ writtenTo (w .opening) (s .poison) (w .request .durable) (ticketOf (w .opening) (w .plan) (w .kind) (countGiven given ((i, leftIn left r) ∷ []))) (resultGiven ((i, leftIn left r) ∷ [])))
           → (pages (w .kind) ≡ true → w .request .durable ≡ true → resultGiven ((i, leftIn left r) ∷ []) ≡ none → w .opening .flush || regionAt s (w .request .handle) .forced ≡ false)
           → Arrived w (cardBy s e card) → drop (answersIn ((i, leftIn left r) ∷ [])) (rest w d) ≡ [] → Came w s card d given e
       unfolding settled freeing Fitting completionOf withBytes addedBy names leave poisonWith regionAt
       ends-with x n bytes q all new outcome wrote policy arrived none-left =
-          let to = settled left t r (ends x (Back (r .buffer) n) bytes none) .0 in
-          let z = next-is (ends x (Back (r .buffer) n) bytes none) q in
+          let to = settled left t r (ends (record { outcome = x; buffer = Back (r .buffer) n; bytes = bytes; cause = none })) .0 in
+          let z = next-is (ends (record { outcome = x; buffer = Back (r .buffer) n; bytes = bytes; cause = none })) q in
           let gone = freed (raised (r .generation)) in
           let c = completionOf r x (Back (r .buffer) n) in
           let ch : Changed left to (rowOf t) (r .buffer) gone bytes = record { settings = refl; regions = refl; rows = refl; pool = refl } in
-          let long : length bytes ≡ left .settings .capacity = fits (ends x (Back (r .buffer) n) bytes none) q .1 ∙ bytes-length left sound-left (r .buffer) in-pool in
+          let long : length bytes ≡ left .settings .capacity = fits (ends (record { outcome = x; buffer = Back (r .buffer) n; bytes = bytes; cause = none })) q .1 ∙ bytes-length left sound-left (r .buffer) in-pool in
           let row : rowAt (next s e) (rowOf t) ≡ gone = ap (λ (y : State). rowAt y (rowOf t)) z ∙ row-here left to (rowOf t) (r .buffer) gone bytes ch in-rows in
           let there : bytesAt (next s e) b ≡ bytes = (λ j. bytesAt (z j) (sym (o .in-row .buffer) j)) ∙ bytes-here left to (rowOf t) (r .buffer) gone bytes ch sound-left in-pool long in
           over (ap (λ (y : Row). names y t) row ∙ freed-unnamed (raised (r .generation))) arrived c (i, leftIn left r) given-is

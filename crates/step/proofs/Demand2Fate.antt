@@ -44,7 +44,7 @@ module _ (o : Opening) (g : Plan) (forced : Bool) (first : Poisoned) (flushes : 
   pub data Whole : Type 0 where
     next-piece : sp .done + n < sp .total → f ≡ awaits (Piece k (splitAfter n sp)) (turned (sp .total) n bytes) → Whole
     its-flush : pages k ≡ true → r .durable ≡ true → sp .done + n ≡ sp .total → f ≡ awaits (Flush (ticketOf o g k flushes)) (turned (sp .total) (sp .total - sp .done) bytes) → Whole
-    completes : sp .done + n ≡ sp .total → (x : Outcome) → (pages k ≡ false → x ≡ readTo (sp .total)) → (pages k ≡ true → EndsAs o g forced first flushes r k x) → f ≡ ends x (Back (r .buffer) (sp .total)) (turned (sp .total) (sp .total - sp .done) bytes) none → Whole
+    completes : sp .done + n ≡ sp .total → (x : Outcome) → (pages k ≡ false → x ≡ readTo (sp .total)) → (pages k ≡ true → EndsAs o g forced first flushes r k x) → f ≡ ends (record { outcome = x; buffer = Back (r .buffer) (sp .total); bytes = turned (sp .total) (sp .total - sp .done) bytes; cause = none }) → Whole
 
 whole-count : (n : ℕ) (x : Answer) → isWhole n x ≡ true → x ≡ Count n
 unfolding isWhole
@@ -57,7 +57,7 @@ module _ (o : Opening) (g : Plan) (forced : Bool) (first : Poisoned) (r : Row) (
   -- the last piece
   last-whole : (k : Kind) (n flushed : ℕ) → sp .done + n ≡ sp .total → Whole o g forced first flushed r k sp n bytes (lastPiece o g forced first r k sp bytes (Count n) true flushed)
   unfolding lastPiece readOutcome readLength bufferAs turnedBack isWritten writtenAs durablyTo writtenTo pages pick
-  last-whole (Read a b) n flushed e = completes e (readTo (sp .done + n)) (λ z. ap readTo e) (λ z. absurd (not-both z refl)) (ap (λ (l : ℕ). ends (readTo (sp .done + n)) (Back (r .buffer) l) (turned (sp .total) (sp .total - sp .done) bytes) none) e)
+  last-whole (Read a b) n flushed e = completes e (readTo (sp .done + n)) (λ z. ap readTo e) (λ z. absurd (not-both z refl)) (ap (λ (l : ℕ). ends (record { outcome = readTo (sp .done + n); buffer = Back (r .buffer) l; bytes = turned (sp .total) (sp .total - sp .done) bytes; cause = none })) e)
   last-whole (Page a b) n flushed e =
       let t = ticketOf o g (Page a b) flushed in
       by-pick _ (Whole o g forced first flushed r (Page a b) sp n bytes)

@@ -39,10 +39,10 @@ use Rattle.model.specs.declared.Row.{Row}
 use Rattle.model.specs.State.{State, Region, freed}
 use Rattle.model.specs.Opening.{Plan}
 use Rattle.step.specs.Questions.{regionAt}
-use Rattle.step.specs.Rules.{firstOf, pieceOf, pieceLength, splitAfter, flushEnds, isWritten, lastPiece, abovePiece, firstRefused, isWhole, goesOn, pieceAnswered, answerRules, flushRules, rules, Input, Input.answered, Input.flushed, Fate, Fate.away, Fate.awaits, Fate.ends, Fate.rejected}
+use Rattle.step.specs.Rules.{firstOf, pieceOf, pieceLength, splitAfter, flushEnds, isWritten, lastPiece, abovePiece, firstRefused, isWhole, goesOn, pieceAnswered, answerRules, flushRules, rules, Input, Input.answered, Input.flushed, Fate, Fate.away, Fate.awaits, Fate.ends, Fate.rejected, rangeEnd}
 use Rattle.step.specs.Step.{rowAt, rowOf, names, isLive, planOf, bytesAt, raised, awaitsNow, completionOf, going, freeing, settled, fateOf}
-use Rattle.step.specs.Sound.{Sound, SplitFits, rangeEnd}
-use Rattle.step.specs.Laws.{Event, leave, done, next, replyTo}
+use Rattle.step.specs.Sound.{Sound, SplitFits}
+use Rattle.step.specs.Run.{Event, leave, done, next, replyTo}
 use Rattle.step.specs.Lists.{brought, isAway, planAt, leftIn, Given, givenAs, givenBy, given, Completed, withBytes, addedBy, isBrought, gets, HostMay}
 use Rattle.step.specs.Demand3.{isWrite}
 use Rattle.step.specs.Demand2.{WholeTo, answersOf, answersIn, Followed, AllWhole, isKept}
@@ -106,7 +106,7 @@ onPiece (away x) = false
 onPiece (awaits Nothing bytes) = false
 onPiece (awaits (Piece k s) bytes) = true
 onPiece (awaits (Flush t) bytes) = false
-onPiece (ends o b bytes cause) = false
+onPiece (ends ending) = false
 onPiece (rejected e b bytes) = false
 
 -- .. or its piece was the last
@@ -118,7 +118,7 @@ Last g (Flush t) f = Unit {0}
 -- what the rules make of an input to a write: its piece is taken whole, or the write is not kept
 data Judged (s : State) (r : Row) (i : Input) (f : Fate) : Type 0 where
   whole : WholeTo s r (r .awaits) i → Last (planAt s r) (r .awaits) f → Judged s r i f
-  lost : (o : Outcome) (b : Buffer) (bytes : List ℕ) (cause : Option FirstCause) → f ≡ ends o b bytes cause → isKept o ≡ false → Judged s r i f
+  lost : (o : Outcome) (b : Buffer) (bytes : List ℕ) (cause : Option FirstCause) → f ≡ ends (record { outcome = o; buffer = b; bytes = bytes; cause = cause }) → isKept o ≡ false → Judged s r i f
   refused : (e : OsError) (b : Buffer) (bytes : List ℕ) → f ≡ rejected e b bytes → Judged s r i f
   turned : (x : Refusal) → f ≡ away x → Judged s r i f
 
@@ -183,7 +183,7 @@ module _ (s : State) (r : Row) (forced : Bool) (first : Poisoned) (o : Opening) 
 unfoldable thenComes : Plan → Fate → List MapPiece
 thenComes g (away x) = []
 thenComes g (awaits a bytes) = comesOf g a
-thenComes g (ends o b bytes cause) = []
+thenComes g (ends ending) = []
 thenComes g (rejected e b bytes) = []
 
 -- what a write goes on to is a write's
@@ -302,7 +302,7 @@ module _ (t b : ℕ) (c : Completion) (bytes : List ℕ) (more : List Completed)
           by-fate′ (away z) q last = none-behind (last refl)
           by-fate′ (awaits Nothing bs) q last = none-behind (last refl) ∙ ap (drop n) (unfold comesOf in refl)
           by-fate′ (awaits (Flush z) bs) q last = none-behind (last refl) ∙ ap (drop n) (unfold comesOf in refl)
-          by-fate′ (ends o d bs cause) q last = none-behind (last refl)
+          by-fate′ (ends ending) q last = none-behind (last refl)
           by-fate′ (rejected z d bs) q last = none-behind (last refl)
           by-fate′ (awaits (Piece k sp′) bs) q last =
               let same : (k ≡ Page x y) × (sp′ ≡ splitAfter (pieceLength plan (Page x y) sp) sp) = follows-now (Piece k sp′) bs q (Piece (Page x y) sp) at in
@@ -322,7 +322,7 @@ module _ (t b : ℕ) (c : Completion) (bytes : List ℕ) (more : List Completed)
           over-comes z at (away x) q = refl
           over-comes z at (awaits a bs) q =
               absurd (unfold Follows in follows-now a bs q (Flush z) at)
-          over-comes z at (ends o d bs cause) q = refl
+          over-comes z at (ends ending) q = refl
           over-comes z at (rejected x d bs) q = refl
 
           by-row : (w : Awaits) → row .awaits ≡ w → drop (answersOf i n) (comes s t) ≡ drop n (thenComes plan f)
@@ -345,10 +345,10 @@ module _ (t b : ℕ) (c : Completion) (bytes : List ℕ) (more : List Completed)
       its = Head × AllWhole (next s e) es t × Left
 
       -- the completion that it gets
-      completion : (o : Outcome) (d : Buffer) (bs : List ℕ) (cause : Option FirstCause) → fateOf left row i ≡ ends o d bs cause → c .outcome ≡ o
+      completion : (o : Outcome) (d : Buffer) (bs : List ℕ) (cause : Option FirstCause) → fateOf left row i ≡ ends (record { outcome = o; buffer = d; bytes = bs; cause = cause }) → c .outcome ≡ o
       unfolding addedBy withBytes settled freeing completionOf isBrought pick leave
       completion o d bs cause q =
-          let z = next-is (ends o d bs cause) q in
+          let z = next-is (ends (record { outcome = o; buffer = d; bytes = bs; cause = cause })) q in
           let added : addedBy s e ≡ completionOf row o d ∷ [] = ap (λ (y : State). drop (length (s .ready)) (y .ready)) z ∙ drop-append-seam (s .ready) (completionOf row o d ∷ []) in
           let first : getsOf s e t b ≡ (completionOf row o d, bytesAt (next s e) b) ∷ [] =
           ap (λ (v : Option Input). pick (isBrought v) (withBytes (bytesAt (next s e) b) (addedBy s e)) []) bt ∙ ap (withBytes (bytesAt (next s e) b)) added in
@@ -366,11 +366,11 @@ module _ (t b : ℕ) (c : Completion) (bytes : List ℕ) (more : List Completed)
       by-fate (awaits a bs) q (lost o d bs′ cause x n) = clash (cc)
       by-fate (awaits a bs) q (refused x d bs′ n) = clash (cc)
       by-fate (awaits a bs) q (turned x n) = clash (cc)
-      by-fate (ends o d bs cause) q (whole z last) =
-          (head z, ended es followed (over (ends o d bs cause) (raised (row .generation)) q refl), counted (ends o d bs cause) q (λ x no. clash (cc)) last (drop-nil (answersIn later)))
-      by-fate (ends o d bs cause) q (lost o′ d′ bs′ cause′ x n) = absurd (not-both kept (ap isKept (completion o d bs cause q) ∙ ap isKept (let y : o ≡ o′ = cc in y) ∙ n))
-      by-fate (ends o d bs cause) q (refused x d′ bs′ n) = clash (cc)
-      by-fate (ends o d bs cause) q (turned x n) = clash (cc)
+      by-fate (ends ending) q (whole z last) =
+          (head z, ended es followed (over (ends ending) (raised (row .generation)) q refl), counted (ends ending) q (λ x no. clash (cc)) last (drop-nil (answersIn later)))
+      by-fate (ends ending) q (lost o′ d′ bs′ cause′ x n) = absurd (not-both kept (ap isKept (completion (ending .outcome) (ending .buffer) (ending .bytes) (ending .cause) q) ∙ ap isKept (let y : (ending .outcome) ≡ o′ = cc in y) ∙ n))
+      by-fate (ends ending) q (refused x d′ bs′ n) = clash (cc)
+      by-fate (ends ending) q (turned x n) = clash (cc)
       by-fate (rejected x d bs) q j =
           absurd (nothing es followed (ap (λ (l : List Completed). l ++ gets (next s e) es t b) (sym (added-none (ap (λ (y : State). y .ready) (next-is (rejected x d bs) q) ∙ append-nil (s .ready)))) ∙ got))
         where

@@ -27,7 +27,7 @@ use Rattle.step.specs.Rules.{Input, Input.answered, Input.flushed, Fate,
 use Rattle.step.specs.Step.{topOf, rowAt, rowOf, names, bytesAt, raised, awaitsNow, accepted, submitted, verdictOf, writeVerdict, readVerdict, going, freeing, settled, fateOf, underTag, taken}
 use Rattle.step.specs.Step.{withRegions, withPoison, marked, withGate, withReadOnly, withForced, called, eqLengths, step}
 use Rattle.step.specs.Sound.{Sound}
-use Rattle.step.specs.Laws.{Made, Made.calls, Made.looks, Event, leave, done, next, replyTo}
+use Rattle.step.specs.Run.{Made, Made.calls, Made.looks, Event, leave, done, next, replyTo}
 use Rattle.step.specs.Lists.{broughtBy, brought, isAway, planAt, tagIn, cardBy}
 use Rattle.step.specs.Demand2.{BeingWritten}
 use Rattle.step.proofs.Picked.{by-pick}
@@ -62,10 +62,10 @@ module _ (s : State) (sound : Sound s) (b : ℕ) where
       let row = rowAt s (rowOf t) in
       let lt = live-in-table s sound (rowOf t) (names-live row t named) .buffer in
       bytes-there s (going s (rowOf t) row a bytes) (rowOf t) (row .buffer) (awaitsNow row a) bytes (record { settings = refl; regions = refl; rows = refl; pool = refl }) sound lt (z .1 ∙ bytes-length s sound (row .buffer) lt) b (λ e. n (sym e))
-  settled-bytes t named n (ends o buf bytes cause) z =
+  settled-bytes t named n (ends ending) z =
       let row = rowAt s (rowOf t) in
       let lt = live-in-table s sound (rowOf t) (names-live row t named) .buffer in
-      bytes-there s (settled s t row (ends o buf bytes cause) .0) (rowOf t) (row .buffer) (freed (raised (row .generation))) bytes (record { settings = refl; regions = refl; rows = refl; pool = refl }) sound lt (z .1 ∙ bytes-length s sound (row .buffer) lt) b (λ e. n (sym e))
+      bytes-there s (settled s t row (ends ending) .0) (rowOf t) (row .buffer) (freed (raised (row .generation))) (ending .bytes) (record { settings = refl; regions = refl; rows = refl; pool = refl }) sound lt (z .1 ∙ bytes-length s sound (row .buffer) lt) b (λ e. n (sym e))
   settled-bytes t named n (rejected f buf bytes) z =
       let row = rowAt s (rowOf t) in
       let lt = live-in-table s sound (rowOf t) (names-live row t named) .buffer in
@@ -132,7 +132,7 @@ module _ (s : State) (sound : Sound s) (t : ℕ) (named : names (rowAt s (rowOf 
   unfolding settled going freeing rowAt
   settled-row u n (away f) = refl
   settled-row u n (awaits a bytes) = getD-set-other (s .rows) (rowOf u) (rowOf t) _ (freed 0) (λ e. n (sym e))
-  settled-row u n (ends o buf bytes cause) = getD-set-other (s .rows) (rowOf u) (rowOf t) _ (freed 0) (λ e. n (sym e))
+  settled-row u n (ends ending) = getD-set-other (s .rows) (rowOf u) (rowOf t) _ (freed 0) (λ e. n (sym e))
   settled-row u n (rejected f buf bytes) = getD-set-other (s .rows) (rowOf u) (rowOf t) _ (freed 0) (λ e. n (sym e))
 
   under-row : (u : ℕ) (i : Input) → u ≢ t → SameRow (underTag s u i)

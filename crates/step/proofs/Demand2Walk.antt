@@ -11,7 +11,7 @@ use Rattle.platform.specs.declared.Flushed.{Flushed}
 use Rattle.completion.specs.declared.Completion.{Completion}
 use Rattle.model.specs.State.{State}
 use Rattle.step.specs.Step.{rowAt, rowOf, names}
-use Rattle.step.specs.Laws.{Event, next, run}
+use Rattle.step.specs.Run.{Event, next, run}
 use Rattle.step.specs.Lists.{Given, givenBy, given, Completed, gets, cardBy, cardAfter}
 use Rattle.step.specs.Demand2.{Served, NoPiece, PiecesDone, Over, countGiven, resultGiven}
 use Rattle.step.proofs.Demand2Task.{Task, Stage, Stage.piece, Stage.flush, Open}

@@ -15,11 +15,10 @@ use Rattle.model.specs.declared.Opening.{Opening}
 use Rattle.model.specs.declared.Row.{Row}
 use Rattle.model.specs.State.{State, freed}
 use Rattle.step.specs.Step.{rowAt, rowOf, raised, isLive}
-use Rattle.step.specs.Sound.{times}
-use Rattle.step.specs.Laws.{Event, next, run}
-use Rattle.step.specs.Lists.{Completed, Given, given, gets, cardAfter, tagAt}
+use Rattle.step.specs.Lists.{times, Completed, Given, given, gets, cardAfter, tagAt, planAt}
+use Rattle.step.specs.Run.{Event, next, run, Start, openedBy, after, plansOf}
 use Rattle.step.specs.Alone.{Course, Course.isOpen, Course.completed, Course.wasRefused, Alones, noneYet}
-use Rattle.step.specs.Demand3.{Start, openedBy, after, alonesAfter, aloneAt, Fits, AllDone, Apart, GivenAlike, Mapped, isWrite, Supposed, OneEach, NoMore, Demand3}
+use Rattle.step.specs.Demand3.{alonesAfter, aloneAt, Fits, AllDone, Apart, GivenAlike, Mapped, isWrite, Supposed, OneEach, NoMore, Demand3}
 use Rattle.step.proofs.AloneTags.{clash, dead-awaiting, names-live, row-of-its-tag, generation-of-its-tag}
 use Rattle.step.proofs.CardLists.{Clear, Every, write-live, cold, hot, byteAlong}
 use Rattle.step.proofs.ListsRows.{Turned, turned-on, idle-stays}
@@ -88,7 +87,7 @@ module _ (x : Start) (s : State) (a : Alones) (k : Reached x s a) (l : List Even
     t = tagAt s r
 
     abbrev begins : Course
-    begins = isOpen (rowAt s r) (k .projected .each r live .bytes)
+    begins = isOpen (planAt s (rowAt s r)) (rowAt s r) (k .projected .each r live .bytes)
 
     abbrev course : Course
     course = courseBy x (a .forced) (a .first) begins (given s l t)
@@ -103,8 +102,8 @@ module _ (x : Start) (s : State) (a : Alones) (k : Reached x s a) (l : List Even
     complete = by-course course refl
       where
         by-course : (c : Course) → course ≡ c → (it : Completed) × (course ≡ completed it)
-        by-course (isOpen row bytes) e =
-            absurd (not-both (names-live (rowAt (run s l) (rowOf t)) t (end .projected .only t row bytes (goes-through .course ∙ ap some e) .0)) (d (rowOf t)))
+        by-course (isOpen g row bytes) e =
+            absurd (not-both (names-live (rowAt (run s l) (rowOf t)) t (end .projected .only t g row bytes (goes-through .course ∙ ap some e) .0)) (d (rowOf t)))
         by-course (completed it) e = (it, e)
         by-course wasRefused e = absurd (goes-through .kept e)
 
@@ -152,15 +151,15 @@ module _ (x : Start) (s : State) (a : Alones) (k : Reached x s a) (l₁ l₂ : L
       unfolding Apart
       others j n v q = u .apart j r y n v live q m
 
-      followed : (l : List Event) → Fits s l → cardAfter s l card y ≡ byteAlong x (a .forced) (a .first) y (isOpen (rowAt s r) (k .projected .each r live .bytes)) (given s l (tagAt s r)) (card y)
+      followed : (l : List Event) → Fits s l → cardAfter s l card y ≡ byteAlong x (a .forced) (a .first) y (isOpen (planAt s (rowAt s r)) (rowAt s r) (k .projected .each r live .bytes)) (given s l (tagAt s r)) (card y)
       followed l f =
           hot x (a .forced) (a .first) y r (rowAt s r .generation) (tagAt s r) (row-of-its-tag s (k .sound) r live) (generation-of-its-tag s (k .sound) r live) l s a k f refl refl card others (inl (live, refl))
-          (isOpen (rowAt s r) (k .projected .each r live .bytes)) (k .projected .each r live .same)
+          (isOpen (planAt s (rowAt s r)) (rowAt s r) (k .projected .each r live .bytes)) (k .projected .each r live .same)
 
       agreed : cardAfter s l₁ card y ≡ cardAfter s l₂ card y
       agreed =
           followed l₁ (u .fits₁)
-          ∙ ap (λ (vs : List Given). byteAlong x (a .forced) (a .first) y (isOpen (rowAt s r) (k .projected .each r live .bytes)) vs (card y)) (same-given r live)
+          ∙ ap (λ (vs : List Given). byteAlong x (a .forced) (a .first) y (isOpen (planAt s (rowAt s r)) (rowAt s r) (k .projected .each r live .bytes)) vs (card y)) (same-given r live)
           ∙ sym (followed l₂ (u .fits₂))
 
     same-byte : cardAfter s l₁ card y ≡ cardAfter s l₂ card y
@@ -177,7 +176,7 @@ module _ (x : Start) (s : State) (a : Alones) (k : Reached x s a) (l₁ l₂ : L
 -- the operations alone through a history and a list
 alones-both : (x : Start) (h l : List Event) → alonesAfter x (h ++ l) ≡ runAlone x (after x h) (alonesAfter x h) l
 unfolding alonesAfter after
-alones-both x h l = alone-append x (openedBy x) noneYet h l
+alones-both x h l = alone-append x (openedBy x) (noneYet (plansOf x)) h l
 
 pub demand3 : Demand3
 unfolding Demand3 aloneAt

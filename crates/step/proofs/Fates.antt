@@ -24,12 +24,10 @@ use Rattle.model.specs.declared.Awaits.{Awaits}
 use Rattle.model.specs.declared.Awaits.the-variants.{Nothing, Piece, Flush}
 use Rattle.model.specs.declared.Row.{Row}
 use Rattle.model.specs.State.{Region, State, awaiting}
-use Rattle.step.specs.Rules.{firstOf, lastOf, Input, Input.answered, Input.flushed, Fate, Fate.away, Fate.awaits, Fate.ends, Fate.rejected}
-use Rattle.step.specs.Rules.{bufferAs, turnedBack, isWritten, readLength, ticketOf, writtenAs, lastPiece, abovePiece, firstRefused, isWhole, goesOn, splitAfter, pieceAnswered, pieceLength}
-use Rattle.step.specs.Rules.{flushEnds, answerRules, flushRules, rules}
+use Rattle.step.specs.Rules.{firstOf, lastOf, Input, Input.answered, Input.flushed, Fate, Fate.away, Fate.awaits, Fate.ends, Fate.rejected, bufferAs, turnedBack, isWritten, readLength, ticketOf, writtenAs, lastPiece, abovePiece, firstRefused, isWhole, goesOn, splitAfter, pieceAnswered, pieceLength, flushEnds, answerRules, flushRules, rules, rangeStart, rangeEnd}
 use Rattle.step.specs.Questions.{regionAt}
 use Rattle.step.specs.Step.{bytesAt, planOf, fateOf}
-use Rattle.step.specs.Sound.{rangeStart, rangeEnd, SplitFits, TicketFits}
+use Rattle.step.specs.Sound.{SplitFits, TicketFits}
 use Rattle.step.proofs.Picked.{by-pick}
 
 -- ---- what is shown
@@ -71,7 +69,7 @@ pub record Onward (o : Opening) (g : Region) (was now : Awaits) : Type 0 where
 unfoldable pub Fitting : Opening → Region → Awaits → ℕ → List ℕ → Fate → Type 0
 Fitting o g was b bytes (away f) = Unit {0}
 Fitting o g was b bytes (awaits now bytes′) = Onward o g was now × (length bytes′ ≡ length bytes)
-Fitting o g was b bytes (ends x buf bytes′ cause) = Own b buf × (length bytes′ ≡ length bytes) × Lies buf bytes bytes′
+Fitting o g was b bytes (ends ending) = Own b (ending .buffer) × (length (ending .bytes) ≡ length bytes) × Lies (ending .buffer) bytes (ending .bytes)
 Fitting o g was b bytes (rejected e buf bytes′) = AwaitsPiece was × Own b buf × (length bytes′ ≡ length bytes) × (bytes′ ≡ bytes)
 
 -- ---- parts of the rules

@@ -6,15 +6,12 @@ use Rattle.layout.specs.Block.{powerBelow, isBlock, onBlock}
 use Rattle.regionmap.specs.Map.{spanFrom, runOf, runEnd, runLeft, place, pieceSize, ascends, spansFrom, spans, extent, extents, apart, apartFrom, allApart, allWithin}
 use Rattle.regionmap.specs.Words.{runsIn, mapIn}
 use Rattle.completion.specs.Numbers.{number, values, contextValues}
-use Rattle.model.specs.State.{freed, upFrom}
-use Rattle.model.specs.Opening.{among, distinct, idsRule, runsOnBlock, blocksRule, mapRule, regionRule, eachRegion, allExtents, apartRule, withinRule}
-use Rattle.model.specs.Opening.{allTrue, numberRules, lengthRules, regionRules, admits, atFirst, opened}
-use Rattle.model.specs.Memory.{planIn, plansIn, listed, opens, receiptFor}
+use Rattle.model.specs.State.{freed, upFrom, receiptFor}
+use Rattle.model.specs.Opening.{among, distinct, idsRule, runsOnBlock, blocksRule, mapRule, regionRule, eachRegion, allExtents, apartRule, withinRule, allTrue, numberRules, lengthRules, regionRules, admits, atFirst, opened, planIn, plansIn, listed, opens}
 use Rattle.step.specs.Questions.{rangeFrom, ask, firstNo, handleNamesRegion, bufferInPool, isHost, heldAt, hostHoldsBuffer, roomInTable, lifetimeLeft, gateOpen, storeWritable, unpoisoned}
 use Rattle.step.specs.Questions.{regionWritable, volumeAndRegionMatch, generationMatches, lengthAbove0, writeOnBlock, readOnBlock, aligned, withinData, regionAt}
 use Rattle.step.specs.Questions.{writeQuestions, readQuestions}
-use Rattle.step.specs.Rules.{opOf, firstOf, lastOf, rangeOf, pieceOf, pieceLength, bufferAs, errorOf, turnedBack, isWritten, causeOf, failedRead, readOutcome, readLength, ticketOf, unflushed, writtenAs, lastPiece}
-use Rattle.step.specs.Rules.{abovePiece, isRefusal, firstRefused, isWhole, goesOn, splitAfter, pieceAnswered, flushOutcome, flushEnds, answerRules, flushRules, rules}
+use Rattle.step.specs.Rules.{opOf, firstOf, lastOf, rangeOf, pieceOf, pieceLength, bufferAs, errorOf, turnedBack, isWritten, causeOf, failedRead, readOutcome, readLength, ticketOf, unflushed, writtenAs, lastPiece, abovePiece, isRefusal, firstRefused, isWhole, goesOn, splitAfter, pieceAnswered, flushOutcome, flushEnds, answerRules, flushRules, rules}
 use Rattle.step.specs.Step.{durableAs, claimedBy, oneMore, accepted, rowOf, generationOf, isLive, names, bytesAt, raised, awaitsNow, oneLess, keptBy, poisonWith, going, freeing, planOf, asksFor}
 use Rattle.step.specs.Step.{completionOf, rejection, settled, fateOf, underTag, givenBack, taken, withRegions, marked, withForced}
 use Rattle.step.specs.Step.{queueTag, topOf, rowAt, verdictOf, writeVerdict, readVerdict, submitted, eqLengths, called, step}

@@ -20,7 +20,7 @@ use Rattle.step.specs.Rules.{Input, Input.answered, Input.flushed, Fate,
 use Rattle.step.specs.Step.{rowAt, accepted, submitted, writeVerdict, readVerdict, rowOf, names, going, freeing, settled, fateOf, underTag, taken}
 use Rattle.step.specs.Step.{withRegions, withPoison, marked, withGate, withReadOnly, withForced, called, eqLengths, step}
 use Rattle.step.specs.Sound.{Sound}
-use Rattle.step.specs.Laws.{Made, Made.calls, Made.looks, Event, leave, done, next, run, Pools}
+use Rattle.step.specs.Run.{Made, Made.calls, Made.looks, Event, leave, done, next, run, Pools}
 use Rattle.step.proofs.Picked.{by-pick}
 use Rattle.step.proofs.Marked.{keeps-besides}
 
@@ -47,7 +47,7 @@ module _ (s : State) where
   unfolding settled going freeing
   settled-stays t r (away f) = stays
   settled-stays t r (awaits a bytes) = record { settings = refl; lengths = refl }
-  settled-stays t r (ends o b bytes cause) = record { settings = refl; lengths = refl }
+  settled-stays t r (ends ending) = record { settings = refl; lengths = refl }
   settled-stays t r (rejected e b bytes) = record { settings = refl; lengths = refl }
 
   under-stays : (t : ℕ) (i : Input) → Stays s (underTag s t i)

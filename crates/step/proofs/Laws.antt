@@ -30,10 +30,10 @@ use Rattle.model.specs.declared.Lookup.{Lookup}
 use Rattle.model.specs.State.{Region, noRegion, State}
 use Rattle.model.specs.Opening.{opened}
 use Rattle.step.specs.Questions.{regionAt}
-use Rattle.step.specs.Rules.{pieceOf, Input.answered, Input.flushed}
+use Rattle.step.specs.Rules.{pieceOf, Input.answered, Input.flushed, rangeStart, rangeEnd}
 use Rattle.step.specs.Step.{startOf, endOf, begun, verdictOf, writeVerdict, readVerdict, submitted, planOf, withRegions, withPoison, marked, withGate, withReadOnly, withForced}
 use Rattle.step.specs.Step.{lookedUp, eqLengths, called, step, look}
-use Rattle.step.specs.Sound.{rangeStart, rangeEnd, SplitFits, Sound}
+use Rattle.step.specs.Sound.{SplitFits, Sound}
 use Rattle.step.specs.Laws.{onCard, stepped, issuedUpTo, StepLaws}
 use Rattle.step.proofs.Picked.{by-pick}
 use Rattle.step.proofs.Numbers.{write-numbers, read-numbers}

@@ -17,10 +17,10 @@ use Rattle.model.specs.declared.Lookup.{Lookup}
 use Rattle.model.specs.State.{State}
 use Rattle.step.specs.Rules.{Input, Input.answered, Input.flushed}
 use Rattle.step.specs.Step.{underTag, called, eqLengths, step}
-use Rattle.step.specs.Laws.{Made, Made.calls, Made.looks, done}
+use Rattle.step.specs.Run.{Made, Made.calls, Made.looks, done, Start, plansOf}
 use Rattle.step.specs.Lists.{broughtBy, brought, tagIn}
 use Rattle.step.specs.Alone.{Alones, feeds, heardCall, heard}
-use Rattle.step.specs.Demand3.{Start, plansOf, listedCall, isListed}
+use Rattle.step.specs.Demand3.{listedCall, isListed}
 use Rattle.step.proofs.AloneTags.{clash}
 
 -- a value that a test let through
@@ -33,10 +33,10 @@ pub record Brings (m : Made) (t : ℕ) (i : Input) : Type 0 where
   pub tag : tagIn m ≡ t
   pub under : (u : ℕ) → brought u m ≡ pick (eqb t u) (some i) none
   pub called-is : (s : State) (l : Lengths) → done s l m ≡ pick (eqLengths l (s .lengths)) (underTag s t i) (s, turnedAway Unfit)
-  pub heard-is : (x : Start) (a : Alones) (pool : List ℕ) (reply : Reply) → heard (x .opening) (plansOf x) (x .lengths) a pool m reply ≡ feeds (x .opening) (plansOf x) (x .lengths) a pool t i (a .ops t)
+  pub heard-is : (x : Start) (a : Alones) (pool : List ℕ) (reply : Reply) → heard (x .opening) (x .lengths) a pool m reply ≡ feeds (x .opening) (x .lengths) a pool t i (a .ops t)
 
 of-answer : (t : ℕ) (c : Call) (i : Input) → tagIn (calls c) ≡ t → ((u : ℕ) → broughtBy u c ≡ pick (eqb t u) (some i) none) → ((s : State) → called s c ≡ underTag s t i)
-    → ((x : Start) (a : Alones) (pool : List ℕ) (reply : Reply) → heardCall (x .opening) (plansOf x) (x .lengths) a pool c reply ≡ feeds (x .opening) (plansOf x) (x .lengths) a pool t i (a .ops t))
+    → ((x : Start) (a : Alones) (pool : List ℕ) (reply : Reply) → heardCall (x .opening) (x .lengths) a pool c reply ≡ feeds (x .opening) (x .lengths) a pool t i (a .ops t))
     → (u : ℕ) (j : Input) → pick (eqb t u) (some i) none ≡ some j → Brings (calls c) u j
 unfolding done step heard brought
 of-answer t c i tag under call hear u j e =

@@ -26,7 +26,7 @@ use Rattle.step.specs.Questions.{regionAt}
 use Rattle.step.specs.Rules.{Input, Fate, Fate.away, Fate.awaits, Fate.ends, Fate.rejected}
 use Rattle.step.specs.Step.{rowAt, rowOf, names, bytesAt, planOf, settled, fateOf, underTag, taken, lookedUp, called, eqLengths, step, look}
 use Rattle.step.specs.Sound.{Sound}
-use Rattle.step.specs.Laws.{Made, Made.calls, done}
+use Rattle.step.specs.Run.{Made, Made.calls, done}
 use Rattle.step.specs.Lists.{broughtBy, brought, isAway, tookBy, planAt, tagIn}
 use Rattle.step.specs.Demand3.{FairTo}
 use Rattle.step.proofs.AloneTags.{names-live}
@@ -42,8 +42,8 @@ pub data Came (s : State) (l : Lengths) (m : Made) : Type 0 where
   took : ((t : ℕ) → brought t m ≡ none) → (c : Completion) (more : List Completion) → s .ready ≡ c ∷ more → done s l m ≡ taken s (c ∷ more) → Came s l m
   goes : (t : ℕ) (i : Input) → Brings m t i → names (rowAt s (rowOf t)) t ≡ true → (a : Awaits) (bytes : List ℕ) → fateOf s (rowAt s (rowOf t)) i ≡ awaits a bytes
       → done s l m ≡ settled s t (rowAt s (rowOf t)) (awaits a bytes) → Came s l m
-  finishes : (t : ℕ) (i : Input) → Brings m t i → names (rowAt s (rowOf t)) t ≡ true → (o : Outcome) (b : Buffer) (bytes : List ℕ) → fateOf s (rowAt s (rowOf t)) i ≡ ends o b bytes none
-      → done s l m ≡ settled s t (rowAt s (rowOf t)) (ends o b bytes none) → Came s l m
+  finishes : (t : ℕ) (i : Input) → Brings m t i → names (rowAt s (rowOf t)) t ≡ true → (o : Outcome) (b : Buffer) (bytes : List ℕ) → fateOf s (rowAt s (rowOf t)) i ≡ ends (record { outcome = o; buffer = b; bytes = bytes; cause = none })
+      → done s l m ≡ settled s t (rowAt s (rowOf t)) (ends (record { outcome = o; buffer = b; bytes = bytes; cause = none })) → Came s l m
 
 -- ---- a lookup and a taking
 
@@ -91,10 +91,10 @@ module _ (s : State) (sound : Sound s) (l : Lengths) (m : Made) (t : ℕ) (i : I
     unfolding settled Calm
     came-met (away f) q d = turned f d
     came-met (awaits a bytes) q d = goes t i br named a bytes q d
-    came-met (ends o b bytes cause) q d =
+    came-met (ends ending) q d =
         let heard : isAway (done s l m .1) ≡ false = unfold isAway settled in ap (λ (y : State × Reply). isAway (y .1)) d in
-        let none-is : cause ≡ none = subst Calm q (fate-calm heard) in
-        finishes t i br named o b bytes (q ∙ ap (ends o b bytes) none-is) (d ∙ ap (λ (c : Option FirstCause). settled s t row (ends o b bytes c)) none-is)
+        let none-is : (ending .cause) ≡ none = subst Calm q (fate-calm heard) in
+        finishes t i br named (ending .outcome) (ending .buffer) (ending .bytes) (q ∙ ap (λ (c : Option FirstCause). ends (record { outcome = ending .outcome; buffer = ending .buffer; bytes = ending .bytes; cause = c })) none-is) (d ∙ ap (λ (c : Option FirstCause). settled s t row (ends (record { outcome = ending .outcome; buffer = ending .buffer; bytes = ending .bytes; cause = c }))) none-is)
     came-met (rejected e b bytes) q d = absurd (not-rejected e b bytes q d)
 
   came-brought : (isAway (done s l m .1) ≡ false → FairTo s row (row .awaits) i) → Came s l m

@@ -18,10 +18,9 @@ use Rattle.model.specs.declared.Awaits.the-variants.{Nothing, Piece, Flush}
 use Rattle.model.specs.declared.Row.{Row}
 use Rattle.model.specs.State.{Region, State, freed}
 use Rattle.step.specs.Questions.{regionAt}
-use Rattle.step.specs.Rules.{Input, Fate.awaits, Fate.ends}
+use Rattle.step.specs.Rules.{Input, Fate.awaits, Fate.ends, rangeStart, rangeEnd}
 use Rattle.step.specs.Step.{rowAt, rowOf, raised, isLive, awaitsNow, poisonWith, going, freeing, settled, fateOf, taken}
-use Rattle.step.specs.Sound.{rangeStart, rangeEnd}
-use Rattle.step.specs.Laws.{Made, done}
+use Rattle.step.specs.Run.{Made, done}
 use Rattle.step.specs.Demand3.{isWrite}
 use Rattle.step.proofs.AloneTags.{freed-dead, live-in, names-live}
 use Rattle.step.proofs.Named.{one-live}
@@ -73,7 +72,7 @@ module _ (s : State) (l : Lengths) (m : Made) where
       let row = rowAt s (rowOf t) in
       let live = names-live row t named in
       subst (λ (y : State × Reply). Moved (rowAt s r) (rowAt (y .0) r)) (sym d)
-      (by-row s (settled s t row (ends o b bytes none) .0) (rowOf t) (row .buffer) (freed (raised (row .generation))) bytes (unfold settled freeing in record { settings = refl; regions = refl; rows = refl; pool = refl }) (live-in s (rowOf t) live)
+      (by-row s (settled s t row (ends (record { outcome = o; buffer = b; bytes = bytes; cause = none })) .0) (rowOf t) (row .buffer) (freed (raised (row .generation))) bytes (unfold settled freeing in record { settings = refl; regions = refl; rows = refl; pool = refl }) (live-in s (rowOf t) live)
       (λ k x. Moved (rowAt s k) x) (frees live refl) (λ k n. stays refl) r)
 
   -- ---- nothing is poisoned

@@ -12,10 +12,10 @@ use Rattle.model.specs.State.{State}
 use Rattle.step.specs.Questions.{regionAt}
 use Rattle.step.specs.Rules.{Input, Input.answered, Input.flushed}
 use Rattle.step.specs.Step.{rowAt}
-use Rattle.step.specs.Laws.{Event, leave, next, replyTo}
+use Rattle.step.specs.Run.{Event, leave, next, replyTo, Start}
 use Rattle.step.specs.Lists.{planAt, HostMay, Hosted}
 use Rattle.step.specs.Alone.{Alones}
-use Rattle.step.specs.Demand3.{Start, isListed, FairTo, Fair, Fits}
+use Rattle.step.specs.Demand3.{isListed, FairTo, Fair, Fits}
 use Rattle.step.proofs.ProjectionReached.{Reached, nextAlone, reached-left, reached-next}
 use Rattle.step.proofs.ListsBrought.{listed-is}
 use Rattle.step.proofs.ListsCame.{Came, FairCall, came}

@@ -25,7 +25,7 @@ use Rattle.step.specs.Questions.{isHost, heldAt, regionAt}
 use Rattle.step.specs.Rules.{Input.answered, Input.flushed}
 use Rattle.step.specs.Step.{rowAt, rowOf, names, submitted, verdictOf, writeVerdict, readVerdict, withPoison, withGate, withReadOnly, withForced, called, eqLengths, step}
 use Rattle.step.specs.Sound.{holds, tableHas, readyHold, Sound}
-use Rattle.step.specs.Laws.{Made, Made.calls, Made.looks, Event, leave, done, next, run, Pools}
+use Rattle.step.specs.Run.{Made, Made.calls, Made.looks, Event, leave, done, next, run, Pools}
 use Rattle.step.specs.Lists.{isAway}
 use Rattle.step.specs.Others.{IsLost, bufferBack, takenFrom}
 use Rattle.step.proofs.Picked.{by-pick}

@@ -7,6 +7,10 @@ use Prim.Native.Nat.{ℕ, _<_}
 use native.Mathlib.Decide.{ℕ-discrete}
 use lib.ListN.{length}
 use lib.Seq.{getD-set-same}
+use mathlib.Core.List.{List}
+use Rattle.domain.specs.declared.FirstCause.{FirstCause}
+use Rattle.completion.specs.declared.Outcome.{Outcome}
+use Rattle.completion.specs.declared.Buffer.{Buffer}
 use Rattle.completion.specs.declared.Buffer.the-variants.{Back, Lost}
 use Rattle.completion.specs.declared.Reply.{Reply}
 use Rattle.model.specs.declared.Lengths.{Lengths}
@@ -17,7 +21,7 @@ use Rattle.step.specs.Rules.{Input, Fate, Fate.away, Fate.awaits, Fate.e
 use Rattle.step.specs.Step.{rowAt, rowOf, names, bytesAt, raised, keptBy, going, freeing, settled, fateOf, underTag}
 use Rattle.step.specs.Step.{eqLengths, step}
 use Rattle.step.specs.Sound.{Sound}
-use Rattle.step.specs.Laws.{Made.calls, Event, leave, done, next}
+use Rattle.step.specs.Run.{Made.calls, Event, leave, done, next}
 use Rattle.step.specs.Lists.{brought, tagIn}
 use Rattle.step.specs.Others.{IsLost}
 use Rattle.step.proofs.Picked.{by-pick}
@@ -46,14 +50,20 @@ module _ (s : State) (sound : Sound s) where
     in-buffers : row .buffer < s .settings .buffers
     in-buffers = rw (sound .owners) at in-owners
 
+    ends-keeps : (o : Outcome) (b : Buffer) (bytes : List ℕ) (cause : Option FirstCause)
+        → let f = ends (record { outcome = o; buffer = b; bytes = bytes; cause = cause }) in
+        FateFits s row f → Keeps (row .buffer) (settled s t row f)
+    unfolding settled freeing Fitting Lies keptBy
+    ends-keeps o (Back k n) bytes cause w gone = clash (let e = getD-set-same (s .owners) (row .buffer) table host in-owners in cc)
+    ends-keeps o Lost bytes cause w gone =
+        bytes-here s (settled s t row (ends (record { outcome = o; buffer = Lost; bytes = bytes; cause = cause })) .0) (rowOf t) (row .buffer) (freed (raised (row .generation))) bytes (record { settings = refl; regions = refl; rows = refl; pool = refl }) sound in-buffers (w .1 ∙ bytes-length s sound (row .buffer) in-buffers)
+        ∙ w .2
+
     settled-keeps : (f : Fate) → FateFits s row f → Keeps (row .buffer) (settled s t row f)
     unfolding settled going freeing Fitting Lies keptBy
     settled-keeps (away f) w gone = refl
     settled-keeps (awaits a bytes) w gone = absurd (not-had s (row .buffer) gone (row .buffer) (row-had s sound t named) refl)
-    settled-keeps (ends o (Back k n) bytes cause) w gone = clash (let e = getD-set-same (s .owners) (row .buffer) table host in-owners in cc)
-    settled-keeps (ends o Lost bytes cause) w gone =
-        bytes-here s (settled s t row (ends o Lost bytes cause) .0) (rowOf t) (row .buffer) (freed (raised (row .generation))) bytes (record { settings = refl; regions = refl; rows = refl; pool = refl }) sound in-buffers (w .1 ∙ bytes-length s sound (row .buffer) in-buffers)
-        ∙ w .2
+    settled-keeps (ends ending) w gone = ends-keeps (ending .outcome) (ending .buffer) (ending .bytes) (ending .cause) w gone
     settled-keeps (rejected e buf bytes) w gone =
         bytes-here s (settled s t row (rejected e buf bytes) .0) (rowOf t) (row .buffer) (freed (row .generation)) bytes (record { settings = refl; regions = refl; rows = refl; pool = refl }) sound in-buffers (w .2 ∙ bytes-length s sound (row .buffer) in-buffers)
         ∙ w .3

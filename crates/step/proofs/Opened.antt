@@ -12,12 +12,11 @@ use Rattle.regionmap.specs.Words.{runsIn, mapIn}
 use Rattle.model.specs.declared.Opening.{Opening}
 use Rattle.model.specs.declared.Lengths.{Lengths}
 use Rattle.model.specs.State.{Region, noRegion, Owner.host, State, freed, awaiting}
-use Rattle.model.specs.Opening.{atFirst, opened}
-use Rattle.model.specs.Memory.{planIn, plansIn, opens}
+use Rattle.model.specs.Opening.{atFirst, opened, planIn, plansIn, opens}
 use Rattle.model.specs.Laws.{mapAt}
 use Rattle.model.proofs.Rules.{pool-holds}
 use Rattle.model.proofs.Opened.{length-up}
-use Rattle.model.proofs.Maps.{plans-length, few-runs, small-generation}
+use Rattle.model.proofs.Maps.{plans-length, inside}
 use Rattle.model.proofs.Laws.{opening-laws}
 use Rattle.step.specs.Questions.{regionAt}
 use Rattle.step.specs.Step.{rowAt}
@@ -41,10 +40,10 @@ module _ (o : Opening) (plan : List ℕ) (l : Lengths) (pool : List ℕ) (ok : o
   each : (h : ℕ) → h < o .regions → SoundRegion o (regionAt first h)
   unfolding atFirst
   each h lt = rw region-at (record {
-    generation = small-generation o plan l ok h lt;
-    runs = few-runs o plan l ok h lt;
-    lawful = opening-laws .maps o plan l ok .lawful h lt;
-    on-card = λ p. opening-laws .maps o plan l ok .on-card h p lt;
+    generation = opening-laws .maps o plan l ok .generation h (inside o plan h lt);
+    runs = opening-laws .maps o plan l ok .runs h (inside o plan h lt);
+    lawful = opening-laws .maps o plan l ok .lawful h (inside o plan h lt);
+    on-card = λ p. opening-laws .maps o plan l ok .on-card h p (inside o plan h lt);
   })
 
   apart : (h k p q : ℕ) → h < o .regions → k < o .regions → p < mapAt o plan h .capacity → q < mapAt o plan k .capacity
@@ -53,8 +52,8 @@ module _ (o : Opening) (plan : List ℕ) (l : Lengths) (pool : List ℕ) (ok : o
     where
       by-case : Dec (h ≡ k) → Dec (p ≡ q) → (h ≡ k) × (p ≡ q)
       by-case (yes a) (yes b) = (a, b)
-      by-case (yes a) (no n) = absurd (opening-laws .maps o plan l ok .apart k p q lk (rw a at lp) lq n (rw a at e))
-      by-case (no n) b = absurd (opening-laws .maps o plan l ok .apart-regions h k p q lh lk n lp lq e)
+      by-case (yes a) (no n) = absurd (opening-laws .maps o plan l ok .apart k p q (inside o plan k lk) (rw a at lp) lq n (rw a at e))
+      by-case (no n) b = absurd (opening-laws .maps o plan l ok .apart-regions h k p q (inside o plan h lh) (inside o plan k lk) n lp lq e)
 
   -- ---- the rows
 

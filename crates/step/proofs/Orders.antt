@@ -15,21 +15,17 @@ use Rattle.iobuf.specs.Turn.{turned, stretch, withStretch}
 use Rattle.completion.specs.declared.Outcome.the-variants.{Written, Read as readTo}
 use Rattle.completion.specs.declared.Buffer.the-variants.{Back}
 use Rattle.model.specs.State.{freed, upFrom, liveRows, awaiting}
-use Rattle.model.specs.Opening.{among, distinct, idsRule, runsOnBlock, blocksRule, mapRule, regionRule, eachRegion, allExtents, apartRule, withinRule}
-use Rattle.model.specs.Opening.{allTrue, numberRules, lengthRules, regionRules, admits, atFirst, opened}
-use Rattle.model.specs.Memory.{planIn, plansIn, listed, opens}
+use Rattle.model.specs.Opening.{among, distinct, idsRule, runsOnBlock, blocksRule, mapRule, regionRule, eachRegion, allExtents, apartRule, withinRule, allTrue, numberRules, lengthRules, regionRules, admits, atFirst, opened, planIn, plansIn, listed, opens}
 use Rattle.step.specs.Questions.{ask, firstNo, handleNamesRegion, bufferInPool, isHost, heldAt, hostHoldsBuffer, roomInTable, lifetimeLeft, gateOpen, storeWritable, unpoisoned}
 use Rattle.step.specs.Questions.{regionWritable, volumeAndRegionMatch, generationMatches, lengthAbove0, writeOnBlock, readOnBlock, aligned, withinData, regionAt}
 use Rattle.step.specs.Questions.{writeQuestions, readQuestions}
-use Rattle.step.specs.Rules.{firstOf, lastOf, pieceOf, pieceLength, bufferAs, turnedBack, isWritten, readOutcome, readLength, ticketOf, writtenAs, lastPiece}
-use Rattle.step.specs.Rules.{abovePiece, isRefusal, firstRefused, isWhole, goesOn, splitAfter, pieceAnswered, answerRules, rules}
+use Rattle.step.specs.Rules.{firstOf, lastOf, pieceOf, pieceLength, bufferAs, turnedBack, isWritten, readOutcome, readLength, ticketOf, writtenAs, lastPiece, abovePiece, isRefusal, firstRefused, isWhole, goesOn, splitAfter, pieceAnswered, answerRules, rules}
 use Rattle.step.specs.Step.{durableAs, claimedBy, oneMore, accepted, rowOf, generationOf, isLive, names, bytesAt, raised, awaitsNow, oneLess, keptBy, poisonWith, going, freeing, planOf, asksFor}
 use Rattle.step.specs.Step.{completionOf, settled, fateOf, underTag, givenBack, taken, queueTag, topOf, rowAt, verdictOf, writeVerdict, readVerdict, submitted, eqLengths, called, step}
-use Rattle.step.specs.Sound.{times}
-use Rattle.step.specs.Laws.{leave, done, next, replyTo, run}
-use Rattle.step.specs.Lists.{broughtBy, brought, isAway, loose, planAt, isBrought, withBytes, addedBy, gets, added, tookBy, takings, takesWhole, wroteBy, tagIn, cardBy, cardAfter, tagAt}
+use Rattle.step.specs.Lists.{times, broughtBy, brought, isAway, loose, planAt, isBrought, withBytes, addedBy, gets, added, tookBy, takings, takesWhole, wroteBy, tagIn, cardBy, cardAfter, tagAt}
+use Rattle.step.specs.Run.{leave, done, next, replyTo, run, plansOf, openedBy, after}
 use Rattle.step.specs.Alone.{noneYet, putAt, tagGiven, begins, withLeft, onward, blamed, aloneFate, feeds, heardCall, heard, aloneNext, alones}
-use Rattle.step.specs.Demand3.{plansOf, openedBy, after, alonesAfter, aloneAt}
+use Rattle.step.specs.Demand3.{alonesAfter, aloneAt}
 use Rattle.step.specs.Figures.{figuresPlan, asking, ticketThere}
 use Rattle.step.specs.Orders.{opening, lengths, filled, reading, inTurn, Orders}
 

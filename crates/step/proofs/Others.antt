@@ -39,7 +39,7 @@ use Rattle.step.specs.Rules.{Input, Fate, Fate.away, Fate.awaits, Fate.e
 use Rattle.step.specs.Step.{rowAt, rowOf, names, isLive, going, freeing, settled, fateOf, underTag, givenBack, taken, withRegions, withPoison, marked, planOf, withGate, withReadOnly, withForced, called}
 use Rattle.step.specs.Step.{writesIn, anyWrites, oldest, markOf, lookedUp, eqLengths, step, look}
 use Rattle.step.specs.Sound.{Sound}
-use Rattle.step.specs.Laws.{Made.calls, done}
+use Rattle.step.specs.Run.{Made.calls, done}
 use Rattle.step.specs.Lists.{broughtBy, brought}
 use Rattle.step.specs.Others.{MarksSet, OtherLaws}
 use Rattle.step.proofs.Picked.{by-pick}
@@ -65,7 +65,7 @@ module _ (s : State) (t : ℕ) where
   unfolding settled going freeing
   settled-done row (away f) e = absurd (omega arith)
   settled-done row (awaits a bytes) e = absurd (omega arith)
-  settled-done row (ends o b bytes cause) e = refl
+  settled-done row (ends ending) e = refl
   settled-done row (rejected x b bytes) e = absurd (omega (arith, length-append (s .ready) []))
 
   says-done : (l : Lengths) (c : Call) (i : Input) → broughtBy t c ≡ some i → SaysDone (step s l c)

@@ -44,7 +44,7 @@ module _ (s : State) (b : ℕ) where
   unfolding settled going freeing
   settled-same t row (away f) n = refl
   settled-same t row (awaits a bytes) n = refl
-  settled-same t row (ends o buf bytes cause) n = another-owner _ _ n
+  settled-same t row (ends ending) n = another-owner _ _ n
   settled-same t row (rejected e buf bytes) n = another-owner _ _ n
 
   pub under-same : (t : ℕ) (i : Input) → (names (rowAt s (rowOf t)) t ≡ true → rowAt s (rowOf t) .buffer ≢ b) → SameOwner (underTag s t i)

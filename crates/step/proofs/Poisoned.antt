@@ -36,7 +36,7 @@ module _ (s : State) (first : FirstCause) (is : s .poison ≡ First first) where
   unfolding settled going freeing
   settled-keeps t row (away f) = is
   settled-keeps t row (awaits a bytes) = is
-  settled-keeps t row (ends o b bytes cause) = kept-with cause
+  settled-keeps t row (ends ending) = kept-with (ending .cause)
   settled-keeps t row (rejected e b bytes) = kept-with none
 
   under-keeps : (t : ℕ) (i : Input) → Keeps (underTag s t i)

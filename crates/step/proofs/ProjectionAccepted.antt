@@ -18,8 +18,9 @@ use Rattle.model.specs.State.{State}
 use Rattle.step.specs.Questions.{heldAt}
 use Rattle.step.specs.Step.{queueTag, topOf, rowAt, generationOf, isLive, names, claimedBy, oneMore, accepted, submitted, verdictOf}
 use Rattle.step.specs.Sound.{Sound}
-use Rattle.step.specs.Alone.{Course.isOpen, Alones, tagGiven, begins}
-use Rattle.step.specs.Demand3.{Start, Projected}
+use Rattle.step.specs.Alone.{Course.isOpen, Alones, tagGiven, begins, planFor}
+use Rattle.step.specs.Demand3.{Projected}
+use Rattle.step.specs.Run.{Start}
 use Rattle.step.proofs.Answers.{Passed}
 use Rattle.step.proofs.Taken.{top-row, awaits-nothing}
 use Rattle.step.proofs.Buffers.{in-pool}
@@ -28,6 +29,7 @@ use Rattle.step.proofs.AloneTags.{small-row, row-of-tag, generation-of-
 use Rattle.step.proofs.ProjectionFixed.{Fixed}
 use Rattle.step.proofs.ProjectionHost.{not-held}
 use Rattle.step.proofs.ProjectionSet.{projected-set}
+use Rattle.step.specs.Lists.{planAt}
 
 module _ (x : Start) (s : State) (i : Sound s) (fx : Fixed x s) (a : Alones) (p : Projected s a) (k : Kind) (q : Request) where
   abbrev top : ℕ
@@ -68,9 +70,9 @@ module _ (x : Start) (s : State) (i : Sound s) (fx : Fixed x s) (a : Alones) (p 
     new-named = names-by new tag refl (sym (generation-of-tag top (rowAt s top .generation) top-small))
 
     projected-accepted : Projected (accepted s top k q) (begins a k q first (some tag))
-    unfolding accepted oneMore begins claimedBy
+    unfolding accepted oneMore begins claimedBy planAt
     projected-accepted =
-        projected-set s (accepted s top k q) i a (begins a k q first (some tag)) p tag top (q .buffer) new first (isOpen (claimedBy (generationOf tag) (a .count) k q) first)
+        projected-set s (accepted s top k q) i a (begins a k q first (some tag)) p tag top (q .buffer) new first (isOpen (planFor a (q .handle)) (claimedBy (generationOf tag) (a .count) k q) first)
         (record {
           changed = record { settings = refl; regions = refl; rows = refl; pool = own-pool };
           in-rows = top-in;
@@ -80,8 +82,12 @@ module _ (x : Start) (s : State) (i : Sound s) (fx : Fixed x s) (a : Alones) (p 
           apart = λ r n live e. not-held s i r live (ap (heldAt s) e ∙ ok .held);
           tags = λ u e z. absurd (top-dead (names-live (rowAt s top) u z));
           ops = λ u. refl;
-          to-open = λ live. (ap (λ (r : Row). isOpen r first) claimed, refl, refl);
-          from-open = λ r bs e. (new-named, sym claimed ∙ (cc));
+          to-open = λ live. (λ j. isOpen (p .plans (q .handle) j) (claimed j) first, refl, refl);
+          from-open = λ g r bs e.
+              let its-plan : planFor a (q .handle) ≡ g = cc in
+              let its-row : claimedBy (generationOf tag) (a .count) k q ≡ r = cc in
+              (new-named, sym claimed ∙ its-row, ap (planAt s) (sym its-row) ∙ sym (p .plans (q .handle)) ∙ its-plan);
+          plans = refl;
           forced = λ h. refl;
           first = p .first;
           count = ap (λ (n : ℕ). n + 1) (p .count);

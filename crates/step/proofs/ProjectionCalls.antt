@@ -27,9 +27,9 @@ use Rattle.step.specs.Questions.{regionAt}
 use Rattle.step.specs.Rules.{Input.answered, Input.flushed}
 use Rattle.step.specs.Step.{writeVerdict, readVerdict, planOf, taken, withRegions, withPoison, marked, withGate, withReadOnly, withForced, called, eqLengths, step}
 use Rattle.step.specs.Sound.{Sound}
-use Rattle.step.specs.Laws.{Made, Made.calls, Made.looks, done}
-use Rattle.step.specs.Alone.{Alones, putAt, heardCall, heard}
-use Rattle.step.specs.Demand3.{Start, plansOf, Projected}
+use Rattle.step.specs.Run.{Made, Made.calls, Made.looks, done, Start, plansOf}
+use Rattle.step.specs.Alone.{Alones, putAt, heardCall, heard, firstAs, forcedAs}
+use Rattle.step.specs.Demand3.{Projected}
 use Rattle.step.proofs.Picked.{by-pick}
 use Rattle.step.proofs.Answers.{write-passed, read-passed}
 use Rattle.step.proofs.ProjectionFixed.{Fixed, plans-set}
@@ -45,25 +45,28 @@ unfolding taken regionAt
 projected-taken s a p [] = p
 projected-taken s a p (c ∷ more) =
     projected-rows s (taken s (c ∷ more) .0) a a p
-    (record { rows = refl; alike = λ r live. alike-kept s (taken s (c ∷ more) .0) refl refl (λ h. refl) _; ops = λ t. refl; forced = p .forced; first = p .first; count = p .count })
+    (record { rows = refl; alike = λ r live. alike-kept s (taken s (c ∷ more) .0) refl refl (λ h. refl) _; regions = λ h. refl; settings = refl; plans = refl; ops = λ t. refl; forced = p .forced; first = p .first; count = p .count })
 
 projected-poison : (s : State) (a : Alones) → Projected s a → (cause : FirstCause)
-    → Projected (withPoison s (firstKept (s .poison) cause)) (record { ops = a .ops; forced = a .forced; first = firstKept (a .first) cause; count = a .count })
+    → Projected (withPoison s (firstKept (s .poison) cause)) (firstAs (firstKept (a .first) cause) a)
 unfolding withPoison regionAt
 projected-poison s a p cause =
     projected-rows s (withPoison s (firstKept (s .poison) cause)) a _ p
-    (record { rows = refl; alike = λ r live. alike-kept s (withPoison s (firstKept (s .poison) cause)) refl refl (λ h. refl) _; ops = λ t. refl; forced = p .forced; first = ap (λ w. firstKept w cause) (p .first); count = p .count })
+    (record { rows = refl; alike = λ r live. alike-kept s (withPoison s (firstKept (s .poison) cause)) refl refl (λ h. refl) _; regions = λ h. refl; settings = refl; plans = refl; ops = λ t. refl; forced = p .forced; first = ap (λ w. firstKept w cause) (p .first); count = p .count })
 
 -- a region's marks, and the forced marks of the operations alone with them
 module _ (s : State) (a : Alones) (p : Projected s a) (h : ℕ) (g : Region) (plan : planOf g ≡ planOf (regionAt s h)) where
   projected-set-mark : (forced : ℕ → Bool) → ((k : ℕ) → k < s .settings .regions → forced k ≡ getD (set (s .regions) h g) k noRegion .forced)
-      → Projected (withRegions s (set (s .regions) h g)) (record { ops = a .ops; forced = forced; first = a .first; count = a .count })
+      → Projected (withRegions s (set (s .regions) h g)) (forcedAs forced a)
   unfolding withRegions regionAt
   projected-set-mark forced e =
       projected-rows s (withRegions s (set (s .regions) h g)) a _ p
       (record {
         rows = refl;
         alike = λ r live. alike-kept s (withRegions s (set (s .regions) h g)) refl refl (plans-set (s .regions) h g plan) _;
+        regions = plans-set (s .regions) h g plan;
+        settings = refl;
+        plans = refl;
         ops = λ t. refl;
         forced = e;
         first = p .first;
@@ -83,12 +86,12 @@ module _ (s : State) (a : Alones) (p : Projected s a) (h : ℕ) (g : Region) (pl
           ∙ List·getD-map (λ (y : Region). y .forced) (s .regions) k noRegion
 
   -- the forced mark
-  projected-forced : Sound s → Projected (marked s h g .0) (pick (ltb h (s .settings .regions)) (record { ops = a .ops; forced = putAt h (g .forced) (a .forced); first = a .first; count = a .count }) a)
+  projected-forced : Sound s → Projected (marked s h g .0) (pick (ltb h (s .settings .regions)) (forcedAs (putAt h (g .forced) (a .forced)) a) a)
   unfolding marked pick regionAt
   projected-forced i = by-handle (ltb h (s .settings .regions)) _ refl
     where
       to-forced : Alones
-      to-forced = record { ops = a .ops; forced = putAt h (g .forced) (a .forced); first = a .first; count = a .count }
+      to-forced = forcedAs (putAt h (g .forced) (a .forced)) a
 
       forced : h < s .settings .regions → (k : ℕ) → k < s .settings .regions → putAt h (g .forced) (a .forced) k ≡ getD (set (s .regions) h g) k noRegion .forced
       forced lt k lk = by-case (ℕ-discrete h k)
@@ -107,12 +110,8 @@ module _ (s : State) (a : Alones) (p : Projected s a) (h : ℕ) (g : Region) (pl
 -- ---- every call
 
 module _ (x : Start) (s : State) (i : Sound s) (fx : Fixed x s) (a : Alones) (p : Projected s a) where
-  regions-are : length (plansOf x) ≡ s .settings .regions
-  unfolding plansOf
-  regions-are = plans-length (x .opening .regions) (x .plan) ∙ ap (λ (o : Opening). o .regions) (sym (fx .settings))
-
   abbrev heardBy : Call → Alones
-  heardBy c = heardCall (x .opening) (plansOf x) (x .lengths) a (s .pool) c (called s c .1)
+  heardBy c = heardCall (x .opening) (x .lengths) a (s .pool) c (called s c .1)
 
   pub projected-called : (c : Call) → Projected (called s c .0) (heardBy c)
   unfolding called heardCall writeVerdict readVerdict withGate withReadOnly withForced planOf
@@ -124,18 +123,18 @@ module _ (x : Start) (s : State) (i : Sound s) (fx : Fixed x s) (a : Alones) (p 
   projected-called (SetGate h y) = projected-marked s a p h (withGate (regionAt s h) y) refl refl
   projected-called (SetReadOnly h y) = projected-marked s a p h (withReadOnly (regionAt s h) y) refl refl
   projected-called (SetForced h y) =
-      subst (λ (n : ℕ). Projected (marked s h (withForced (regionAt s h) y) .0) (pick (ltb h n) (record { ops = a .ops; forced = putAt h y (a .forced); first = a .first; count = a .count }) a)) (sym regions-are)
+      subst (λ (n : ℕ). Projected (marked s h (withForced (regionAt s h) y) .0) (pick (ltb h n) (forcedAs (putAt h y (a .forced)) a) a)) (sym (p .regions))
       (projected-forced s a p h (withForced (regionAt s h) y) refl i)
   projected-called (ReportPoison cause) = projected-poison s a p cause
 
   -- with its lengths, or a lookup
-  pub projected-done : (l : Lengths) (m : Made) → Projected (done s l m .0) (pick (eqLengths l (x .lengths)) (heard (x .opening) (plansOf x) (x .lengths) a (s .pool) m (done s l m .1)) a)
+  pub projected-done : (l : Lengths) (m : Made) → Projected (done s l m .0) (pick (eqLengths l (x .lengths)) (heard (x .opening) (x .lengths) a (s .pool) m (done s l m .1)) a)
   unfolding done step pick heard
   projected-done l (calls c) =
-      subst (λ (o : Lengths). Projected (step s l c .0) (pick (eqLengths l o) (heardCall (x .opening) (plansOf x) (x .lengths) a (s .pool) c (step s l c .1)) a)) (fx .lengths) (by-lengths (eqLengths l (s .lengths)))
+      subst (λ (o : Lengths). Projected (step s l c .0) (pick (eqLengths l o) (heardCall (x .opening) (x .lengths) a (s .pool) c (step s l c .1)) a)) (fx .lengths) (by-lengths (eqLengths l (s .lengths)))
     where
       by-lengths : (b : Bool)
-          → Projected (pick b (called s c) (s, turnedAway Unfit) .0) (pick b (heardCall (x .opening) (plansOf x) (x .lengths) a (s .pool) c (pick b (called s c) (s, turnedAway Unfit) .1)) a)
+          → Projected (pick b (called s c) (s, turnedAway Unfit) .0) (pick b (heardCall (x .opening) (x .lengths) a (s .pool) c (pick b (called s c) (s, turnedAway Unfit) .1)) a)
       by-lengths true = projected-called c
       by-lengths false = p
   projected-done l (looks y) = by-lengths (eqLengths l (x .lengths))

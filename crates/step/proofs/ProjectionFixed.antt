@@ -16,13 +16,11 @@ use Rattle.model.specs.declared.Call.the-variants.{Write, ReadPage, Answer, Flu
 use Rattle.model.specs.declared.Verdict.{Verdict}
 use Rattle.model.specs.declared.Verdict.the-variants.{No as refuses, Accept}
 use Rattle.model.specs.State.{Region, noRegion, State}
-use Rattle.model.specs.Opening.{Plan, atFirst, opened}
-use Rattle.model.specs.Memory.{planIn}
+use Rattle.model.specs.Opening.{Plan, atFirst, opened, planIn}
 use Rattle.step.specs.Questions.{regionAt}
 use Rattle.step.specs.Rules.{Input, Input.answered, Input.flushed, Fate, Fate.away, Fate.awaits, Fate.ends, Fate.rejected}
 use Rattle.step.specs.Step.{accepted, submitted, writeVerdict, readVerdict, rowAt, rowOf, names, going, freeing, planOf, settled, fateOf, underTag, taken, withRegions, withPoison, marked, withGate, withReadOnly, withForced, called, eqLengths, step}
-use Rattle.step.specs.Laws.{Made, Made.calls, Made.looks, Event, leave, done, next}
-use Rattle.step.specs.Demand3.{Start, plansOf, openedBy}
+use Rattle.step.specs.Run.{Made, Made.calls, Made.looks, Event, leave, done, next, Start, plansOf, openedBy}
 use Rattle.step.proofs.Picked.{by-pick}
 use Rattle.step.proofs.Histories.{done-stays}
 
@@ -40,7 +38,7 @@ module _ (s : State) where
   unfolding settled going freeing regionAt
   settled-plans t row (away f) h = refl
   settled-plans t row (awaits a bytes) h = refl
-  settled-plans t row (ends o b bytes cause) h = refl
+  settled-plans t row (ends ending) h = refl
   settled-plans t row (rejected e b bytes) h = refl
 
   under-plans : (t : ℕ) (i : Input) → Same (underTag s t i)

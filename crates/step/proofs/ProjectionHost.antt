@@ -14,16 +14,15 @@ use Rattle.iobuf.specs.Turn.{stretch}
 use Rattle.model.specs.declared.Opening.{Opening}
 use Rattle.model.specs.declared.Row.{Row}
 use Rattle.model.specs.State.{Owner, Owner.host, Owner.table, Owner.lost, State, freed}
-use Rattle.model.specs.Opening.{Plan}
-use Rattle.model.specs.Memory.{planIn}
+use Rattle.model.specs.Opening.{Plan, planIn}
 use Rattle.step.specs.Questions.{isHost, regionAt, heldAt}
 use Rattle.step.specs.Rules.{Input, rules}
 use Rattle.step.specs.Step.{rowAt, isLive, bytesAt, planOf, fateOf}
 use Rattle.step.specs.Sound.{rowHolds, rowsHold, tableHas, InTable, Sound}
-use Rattle.step.specs.Laws.{leave}
+use Rattle.step.specs.Run.{leave, Start, plansOf}
 use Rattle.step.specs.Lists.{loose, planAt, LooseIn, HostMay}
 use Rattle.step.specs.Alone.{Alones, withLeft, aloneFate}
-use Rattle.step.specs.Demand3.{Start, plansOf, Alike}
+use Rattle.step.specs.Demand3.{Alike}
 use Rattle.step.proofs.Counts.{hold-set, holds-none, holds-own, has-most}
 use Rattle.step.proofs.Freed.{had}
 use Rattle.step.proofs.Named.{live-one, live-below}
@@ -107,22 +106,19 @@ unfolding withLeft
 with-left n left bytes e = ap (λ (l : List ℕ). take n left ++ l) e ∙ take-append-drop n left
 
 pub same-fate : (x : Start) (s : State) → Fixed x s → (a : Alones) (r : Row) (bytes : List ℕ) (i : Input) → a .forced (r .handle) ≡ regionAt s (r .handle) .forced → a .first ≡ s .poison → Alike s r bytes
-    → fateOf s r i ≡ aloneFate (x .opening) (plansOf x) (x .lengths) a (s .pool) r bytes i
+    → fateOf s r i ≡ aloneFate (x .opening) (x .lengths) a (s .pool) (planAt s r) r bytes i
 unfolding fateOf aloneFate bytesAt planAt
 same-fate x s f a r bytes i forced first alike =
-    λ j. rules (f .settings j) (f .plans (r .handle) j) (sym forced j) (sym first j) r (left j) i
+    λ j. rules (f .settings j) g (sym forced j) (sym first j) r (left j) i
   where
     g : Plan
-    g = getD (plansOf x) (r .handle) (planIn [])
+    g = planOf (regionAt s (r .handle))
 
     stretches : stretch (s .settings .capacity) (r .buffer) (s .pool) ≡ stretch (x .opening .capacity) (r .buffer) (s .pool)
     stretches = ap (λ (o : Opening). stretch (o .capacity) (r .buffer) (s .pool)) (f .settings)
 
-    loosely : loose (planOf (regionAt s (r .handle))) (r .awaits) ≡ loose g (r .awaits)
-    loosely = ap (λ (p : Plan). loose p (r .awaits)) (f .plans (r .handle))
-
     same : drop (loose g (r .awaits)) bytes ≡ drop (loose g (r .awaits)) (stretch (x .opening .capacity) (r .buffer) (s .pool))
-    same = subst (λ (n : ℕ). drop n bytes ≡ drop n (stretch (x .opening .capacity) (r .buffer) (s .pool))) loosely (alike .same ∙ ap (drop (loose (planOf (regionAt s (r .handle))) (r .awaits))) stretches)
+    same = alike .same ∙ ap (drop (loose g (r .awaits))) stretches
 
     left : stretch (s .settings .capacity) (r .buffer) (s .pool) ≡ withLeft (loose g (r .awaits)) (stretch (x .opening .capacity) (r .buffer) (s .pool)) bytes
     left = stretches ∙ sym (with-left (loose g (r .awaits)) (stretch (x .opening .capacity) (r .buffer) (s .pool)) bytes same)

@@ -8,15 +8,14 @@ use Rattle.layout.proofs.Tests.{not-both}
 use Rattle.regionmap.specs.Words.{runsIn, mapIn}
 use Rattle.model.specs.declared.Row.{Row}
 use Rattle.model.specs.State.{Region, noRegion, State, freed}
-use Rattle.model.specs.Opening.{atFirst, opened}
-use Rattle.model.specs.Memory.{planIn}
+use Rattle.model.specs.Opening.{atFirst, opened, planIn}
 use Rattle.step.specs.Questions.{regionAt}
 use Rattle.step.specs.Step.{rowAt, isLive}
 use Rattle.step.specs.Sound.{Sound}
-use Rattle.step.specs.Laws.{Event, leave, next, replyTo, run}
+use Rattle.step.specs.Run.{Event, leave, next, replyTo, run, Start, plansOf, openedBy}
 use Rattle.step.specs.Lists.{HostMay, Hosted}
 use Rattle.step.specs.Alone.{Alones, noneYet, aloneNext, alones}
-use Rattle.step.specs.Demand3.{Start, plansOf, openedBy, Projected}
+use Rattle.step.specs.Demand3.{Projected}
 use Rattle.step.proofs.Counts.{all-alike}
 use Rattle.step.proofs.Opened.{opened-sound}
 use Rattle.step.proofs.Histories.{leaves, keeps-next}
@@ -25,6 +24,7 @@ use Rattle.step.proofs.AloneTags.{clash, freed-dead}
 use Rattle.step.proofs.ProjectionFixed.{Fixed, fixed-opened, fixed-left, fixed-next}
 use Rattle.step.proofs.ProjectionRows.{projected-left}
 use Rattle.step.proofs.ProjectionCalls.{projected-done}
+use Rattle.model.proofs.Maps.{plans-length}
 
 pub record Reached (x : Start) (s : State) (a : Alones) : Type 0 where
   pub sound : Sound s
@@ -33,10 +33,10 @@ pub record Reached (x : Start) (s : State) (a : Alones) : Type 0 where
 
 -- the operations alone after an event, and after a list of events
 abbrev pub nextAlone : Start → State → Alones → Event → Alones
-nextAlone x s a e = aloneNext (x .opening) (plansOf x) (x .lengths) a e (replyTo s e)
+nextAlone x s a e = aloneNext (x .opening) (x .lengths) a e (replyTo s e)
 
 abbrev pub runAlone : Start → State → Alones → List Event → Alones
-runAlone x s a l = alones (x .opening) (plansOf x) (x .lengths) s a l
+runAlone x s a l = alones (x .opening) (x .lengths) s a l
 
 -- ---- the opening
 
@@ -48,18 +48,20 @@ opened-unforced : (x : Start) (h : ℕ) → regionAt (openedBy x) h .forced ≡ 
 unfolding openedBy opened regionAt noRegion atFirst planIn mapIn runsIn
 opened-unforced x h = ap (λ (g : Region). g .forced) (List·getD-map atFirst (plansOf x) h (planIn []))
 
-pub projected-opened : (x : Start) → Projected (openedBy x) noneYet
+pub projected-opened : (x : Start) → Projected (openedBy x) (noneYet (plansOf x))
 unfolding noneYet
 projected-opened x = record {
   each = λ r live. absurd (not-both live (opened-dead x r));
-  only = λ t r bytes e. clash (cc);
+  only = λ t g r bytes e. clash (cc);
+  regions = unfold openedBy opened plansOf in plans-length (x .opening .regions) (x .plan);
+  plans = λ h. sym (fixed-opened x .plans h);
   forced = λ h lt. sym (opened-unforced x h);
   first = unfold openedBy opened in refl;
   count = unfold openedBy opened in refl;
 }
 
 module _ (x : Start) where
-  pub reached-opened : Reached x (openedBy x) noneYet
+  pub reached-opened : Reached x (openedBy x) (noneYet (plansOf x))
   unfolding openedBy plansOf
   reached-opened = record {
     sound = opened-sound (x .opening) (x .plan) (x .lengths) (x .pool) (x .admitted) (x .whole);

@@ -4,7 +4,7 @@ use mathlib.Core.Path.{_≡_, refl, sym, ap, _∙_, subst}
 use mathlib.Core.Logic.{_≢_}
 use mathlib.Core.Bool.{true}
 use mathlib.Core.Option.{some}
-use mathlib.Core.List.{List}
+use mathlib.Core.List.{List, []}
 use Prim.Native.Nat.{ℕ, _<_}
 use native.Mathlib.Decide.{ℕ-discrete}
 use borrow.Author.Tests.{eq-eqb, ne-eqb}
@@ -16,7 +16,7 @@ use Rattle.iobuf.proofs.Laws.{turn-laws}
 use Rattle.model.specs.declared.Opening.{Opening}
 use Rattle.model.specs.declared.Row.{Row}
 use Rattle.model.specs.State.{Region, noRegion, State, freed}
-use Rattle.model.specs.Opening.{Plan}
+use Rattle.model.specs.Opening.{Plan, planIn}
 use Rattle.step.specs.Questions.{regionAt}
 use Rattle.step.specs.Step.{queueTag, rowAt, rowOf, isLive, names, bytesAt, planOf}
 use Rattle.step.specs.Sound.{Sound}
@@ -88,9 +88,10 @@ pub record Replaced (s s′ : State) (a a′ : Alones) (t j b : ℕ) (new : Row)
   pub tags : (u : ℕ) → rowOf u ≡ j → names (rowAt s j) u ≡ true → u ≡ t
   -- the operation alone under the tag is as the row
   pub ops : (u : ℕ) → a′ .ops u ≡ putAt t (some c) (a .ops) u
-  pub to-open : isLive (new .awaits) ≡ true → (c ≡ isOpen new bytes) × (t ≡ queueTag j (new .generation)) × (new .buffer ≡ b)
-  pub from-open : (r : Row) (bs : List ℕ) → c ≡ isOpen r bs → (names new t ≡ true) × (new ≡ r)
-  -- the marks, the first cause and the count
+  pub to-open : isLive (new .awaits) ≡ true → (c ≡ isOpen (planAt s new) new bytes) × (t ≡ queueTag j (new .generation)) × (new .buffer ≡ b)
+  pub from-open : (g : Plan) (r : Row) (bs : List ℕ) → c ≡ isOpen g r bs → (names new t ≡ true) × (new ≡ r) × (planAt s r ≡ g)
+  -- the plans, the marks, the first cause and the count
+  pub plans : a′ .plans ≡ a .plans
   pub forced : (h : ℕ) → a′ .forced h ≡ a .forced h
   pub first : a′ .first ≡ s′ .poison
   pub count : a′ .count ≡ s′ .counts .submissions
@@ -99,7 +100,7 @@ module _ (s s′ : State) (i : Sound s) (a a′ : Alones) (p : Projected s a) (t
   -- the operation in a row x at place r
   record Alone (r : ℕ) (x : Row) : Type 0 where
     its : List ℕ
-    same : a′ .ops (queueTag r (x .generation)) ≡ some (isOpen x its)
+    same : a′ .ops (queueTag r (x .generation)) ≡ some (isOpen (planAt s′ x) x its)
     alike : Alike s′ x its
 
   cap-after : s′ .settings .capacity ≡ s .settings .capacity
@@ -111,7 +112,7 @@ module _ (s s′ : State) (i : Sound s) (a a′ : Alones) (p : Projected s a) (t
       let held : bytesAt s′ (new .buffer) ≡ bytes = ap (bytesAt s′) (z .2) ∙ bytes-here s s′ j b new bytes (w .changed) i (w .in-buffers) (w .long) in
       record {
         its = bytes;
-        same = ap (a′ .ops) (sym (z .1)) ∙ w .ops t ∙ put-here t (some c) (a .ops) ∙ ap some (z .0);
+        same = ap (a′ .ops) (sym (z .1)) ∙ w .ops t ∙ put-here t (some c) (a .ops) ∙ ap some (z .0) ∙ ap (λ (g : Plan). some (isOpen g new bytes)) (sym (plan-after s s′ j b new bytes (w .changed) new));
         alike = record { count = w .long ∙ sym cap-after; same = ap (drop (loose (planAt s′ new) (new .awaits))) (sym held) };
       }
 
@@ -128,7 +129,7 @@ module _ (s s′ : State) (i : Sound s) (a a′ : Alones) (p : Projected s a) (t
       let loosely : loose (planAt s′ x) (x .awaits) ≡ loose (planAt s x) (x .awaits) = ap (λ (g : Plan). loose g (x .awaits)) (plan-after s s′ j b new bytes (w .changed) x) in
       record {
         its = z .bytes;
-        same = w .ops (tagAt s r) ∙ put-there t (tagAt s r) (some c) (a .ops) (other-tag r n live) ∙ z .same;
+        same = w .ops (tagAt s r) ∙ put-there t (tagAt s r) (some c) (a .ops) (other-tag r n live) ∙ z .same ∙ ap (λ (g : Plan). some (isOpen g x (z .bytes))) (sym (plan-after s s′ j b new bytes (w .changed) x));
         alike = record {
           count = z .alike .count ∙ sym cap-after;
           same =
@@ -142,35 +143,37 @@ module _ (s s′ : State) (i : Sound s) (a a′ : Alones) (p : Projected s a) (t
       let z = by-row s s′ j b new bytes (w .changed) (w .in-rows) (λ k x. isLive (x .awaits) ≡ true → Alone k x) here there r live in
       record { bytes = z .its; same = z .same; alike = z .alike }
 
-  abbrev Stands : ℕ → Row → Type 0
-  Stands u r = (names (rowAt s′ (rowOf u)) u ≡ true) × (rowAt s′ (rowOf u) ≡ r)
+  abbrev Stands : ℕ → Plan → Row → Type 0
+  Stands u g r = (names (rowAt s′ (rowOf u)) u ≡ true) × (rowAt s′ (rowOf u) ≡ r) × (planAt s′ r ≡ g)
 
-  only-here : (r : Row) (bs : List ℕ) → a′ .ops t ≡ some (isOpen r bs) → Stands t r
-  only-here r bs e =
-      let got : some c ≡ some (isOpen r bs) = sym (w .ops t ∙ put-here t (some c) (a .ops)) ∙ e in
-      let z = w .from-open r bs (cc) in
+  only-here : (g : Plan) (r : Row) (bs : List ℕ) → a′ .ops t ≡ some (isOpen g r bs) → Stands t g r
+  only-here g r bs e =
+      let got : some c ≡ some (isOpen g r bs) = sym (w .ops t ∙ put-here t (some c) (a .ops)) ∙ e in
+      let z = w .from-open g r bs (cc) in
       let at : rowAt s′ (rowOf t) ≡ new = ap (rowAt s′) (w .row) ∙ row-here s s′ j b new bytes (w .changed) (w .in-rows) in
-      (ap (λ (x : Row). names x t) at ∙ z .0, at ∙ z .1)
+      (ap (λ (x : Row). names x t) at ∙ z .0, at ∙ z .1, plan-after s s′ j b new bytes (w .changed) r ∙ z .2)
 
-  only-there : (u : ℕ) (r : Row) (bs : List ℕ) → t ≢ u → a′ .ops u ≡ some (isOpen r bs) → Stands u r
-  only-there u r bs n e =
-      let z = p .only u r bs (sym (w .ops u ∙ put-there t u (some c) (a .ops) n) ∙ e) in
+  only-there : (u : ℕ) (g : Plan) (r : Row) (bs : List ℕ) → t ≢ u → a′ .ops u ≡ some (isOpen g r bs) → Stands u g r
+  only-there u g r bs n e =
+      let z = p .only u g r bs (sym (w .ops u ∙ put-there t u (some c) (a .ops) n) ∙ e) in
       let other : rowOf u ≢ j = λ q. n (sym (w .tags u q (ap (λ (k : ℕ). names (rowAt s k) u) (sym q) ∙ z .0))) in
       let at : rowAt s′ (rowOf u) ≡ rowAt s (rowOf u) = row-there s s′ j b new bytes (w .changed) (rowOf u) other in
-      (ap (λ (x : Row). names x u) at ∙ z .0, at ∙ z .1)
+      (ap (λ (x : Row). names x u) at ∙ z .0, at ∙ z .1, plan-after s s′ j b new bytes (w .changed) r ∙ z .2)
 
-  only-after : (u : ℕ) (r : Row) (bs : List ℕ) → a′ .ops u ≡ some (isOpen r bs) → Stands u r
-  only-after u r bs e = by-case (ℕ-discrete t u)
+  only-after : (u : ℕ) (g : Plan) (r : Row) (bs : List ℕ) → a′ .ops u ≡ some (isOpen g r bs) → Stands u g r
+  only-after u g r bs e = by-case (ℕ-discrete t u)
     where
-      by-case : Dec (t ≡ u) → Stands u r
-      by-case (yes q) = subst (λ (v : ℕ). Stands v r) q (only-here r bs (ap (a′ .ops) q ∙ e))
-      by-case (no n) = only-there u r bs n e
+      by-case : Dec (t ≡ u) → Stands u g r
+      by-case (yes q) = subst (λ (v : ℕ). Stands v g r) q (only-here g r bs (ap (a′ .ops) q ∙ e))
+      by-case (no n) = only-there u g r bs n e
 
   pub projected-set : Projected s′ a′
   unfolding regionAt
   projected-set = record {
     each = each-after;
     only = only-after;
+    regions = ap length (w .plans) ∙ p .regions ∙ ap (λ (o : Opening). o .regions) (sym (w .changed .settings));
+    plans = λ h. ap (λ (ps : List Plan). getD ps h (planIn [])) (w .plans) ∙ p .plans h ∙ ap (λ (gs : List Region). planOf (getD gs h noRegion)) (sym (w .changed .regions));
     forced = λ h lt.
         w .forced h ∙ p .forced h (subst (λ (o : Opening). h < o .regions) (w .changed .settings) lt)
         ∙ ap (λ (l : List Region). getD l h noRegion .forced) (sym (w .changed .regions));

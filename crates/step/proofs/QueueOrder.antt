@@ -19,10 +19,10 @@ use Rattle.model.specs.Opening.{Plan}
 use Rattle.step.specs.Questions.{regionAt}
 use Rattle.step.specs.Rules.{Fate.awaits}
 use Rattle.step.specs.Step.{rowAt, rowOf, raised, isLive, planOf, awaitsNow, completionOf, asksFor, going, freeing, settled, taken}
-use Rattle.step.specs.Laws.{Made, Event, leave, done, next, replyTo, run}
+use Rattle.step.specs.Run.{Made, Event, leave, done, next, replyTo, run, Start}
 use Rattle.step.specs.Lists.{tookBy, addedBy, added, takings}
 use Rattle.step.specs.Alone.{Alones}
-use Rattle.step.specs.Demand3.{Start, Fits, AllDone}
+use Rattle.step.specs.Demand3.{Fits, AllDone}
 use Rattle.step.proofs.Counts.{live-set}
 use Rattle.step.proofs.Named.{live-one}
 use Rattle.step.proofs.AloneTags.{dead-awaiting, freed-dead, live-in, names-live}

@@ -18,15 +18,14 @@ use Rattle.domain.specs.declared.Poisoned.{Poisoned}
 use Rattle.completion.specs.declared.Reply.{Reply}
 use Rattle.model.specs.declared.Row.{Row}
 use Rattle.model.specs.State.{State}
-use Rattle.model.specs.Opening.{Plan}
-use Rattle.model.specs.Memory.{planIn}
+use Rattle.model.specs.Opening.{Plan, planIn}
 use Rattle.step.specs.Questions.{regionAt}
 use Rattle.step.specs.Rules.{Input, Fate, Fate.away, Fate.awaits, Fate.ends, Fate.rejected, rules}
 use Rattle.step.specs.Step.{rowAt, rowOf, bytesAt, planOf, settled, eqLengths}
-use Rattle.step.specs.Laws.{Made, Event, leave, replyTo}
+use Rattle.step.specs.Run.{Made, Event, leave, replyTo, Start, plansOf}
 use Rattle.step.specs.Lists.{brought, isAway, loose, planAt, leftIn, Given, givenAs, givenBy, HostMay}
 use Rattle.step.specs.Alone.{Course, Course.isOpen, Course.completed, Course.wasRefused, Alones, withLeft, onward, aloneFate, feeds, heardCall, heard, aloneNext}
-use Rattle.step.specs.Demand3.{Start, plansOf, isListed}
+use Rattle.step.specs.Demand3.{isListed}
 use Rattle.step.proofs.AloneTags.{clash}
 use Rattle.step.proofs.ListsBrought.{Listed, Listed.brings-to, Listed.takes, Listed.looks-up, listed-is}
 use Rattle.step.proofs.Picked.{by-pick}
@@ -41,9 +40,8 @@ use Rattle.step.proofs.ProjectionSteps.{alone-to, other-length, fate, f
 
 module _ (x : Start) (forced : ℕ → Bool) (first : Poisoned) where
   unfoldable pub fedBy : Course → Given → Course
-  fedBy (isOpen r bytes) v =
-      let g = getD (plansOf x) (r .handle) (planIn []) in
-      onward r bytes (rules (x .opening) g (forced (r .handle)) first r (withLeft (loose g (r .awaits)) (v .1) bytes) (v .0))
+  fedBy (isOpen g r bytes) v =
+      onward g r bytes (rules (x .opening) g (forced (r .handle)) first r (withLeft (loose g (r .awaits)) (v .1) bytes) (v .0))
   fedBy (completed c) v = completed c
   fedBy wasRefused v = wasRefused
 
@@ -63,26 +61,26 @@ left-enough n left bytes = ap (λ (l : List ℕ). l ++ drop n bytes) (take-take 
 
 -- ---- an answer that is turned away leaves its operation as it is
 
-settled-away : (s : State) (t : ℕ) (r : Row) (own : List ℕ) (f : Fate) → FateFits s r f → isAway (settled s t r f .1) ≡ true → onward r own f ≡ isOpen r own
+settled-away : (s : State) (t : ℕ) (g : Plan) (r : Row) (own : List ℕ) (f : Fate) → FateFits s r f → isAway (settled s t r f .1) ≡ true → onward g r own f ≡ isOpen g r own
 unfolding settled onward isAway Fitting
-settled-away s t r own (away f) z e = refl
-settled-away s t r own (awaits a b) z e = absurd (not-both e (asks (planOf (regionAt s (r .handle))) t (r .buffer) a))
-settled-away s t r own (ends o b bs cause) z e = absurd (not-both e refl)
-settled-away s t r own (rejected f b bs) z e = absurd (not-both e (rejects (planOf (regionAt s (r .handle))) (r .awaits) f b (z .0)))
+settled-away s t g r own (away f) z e = refl
+settled-away s t g r own (awaits a b) z e = absurd (not-both e (asks (planOf (regionAt s (r .handle))) t (r .buffer) a))
+settled-away s t g r own (ends ending) z e = absurd (not-both e refl)
+settled-away s t g r own (rejected f b bs) z e = absurd (not-both e (rejects (planOf (regionAt s (r .handle))) (r .awaits) f b (z .0)))
 
 -- ---- an event that brings nothing to the operation under a tag leaves it as it is
 
-feeds-other : (x : Start) (a : Alones) (pool : List ℕ) (u t : ℕ) (i : Input) (c : Option Course) → u ≢ t → feeds (x .opening) (plansOf x) (x .lengths) a pool u i c .ops t ≡ a .ops t
+feeds-other : (x : Start) (a : Alones) (pool : List ℕ) (u t : ℕ) (i : Input) (c : Option Course) → u ≢ t → feeds (x .opening) (x .lengths) a pool u i c .ops t ≡ a .ops t
 unfolding feeds
 feeds-other x a pool u t i none n = refl
-feeds-other x a pool u t i (some (isOpen r bytes)) n = put-there u t _ (a .ops) n
+feeds-other x a pool u t i (some (isOpen g r bytes)) n = put-there u t _ (a .ops) n
 feeds-other x a pool u t i (some (completed c)) n = refl
 feeds-other x a pool u t i (some wasRefused) n = refl
 
-feeds-forced : (x : Start) (a : Alones) (pool : List ℕ) (u : ℕ) (i : Input) (c : Option Course) → feeds (x .opening) (plansOf x) (x .lengths) a pool u i c .forced ≡ a .forced
+feeds-forced : (x : Start) (a : Alones) (pool : List ℕ) (u : ℕ) (i : Input) (c : Option Course) → feeds (x .opening) (x .lengths) a pool u i c .forced ≡ a .forced
 unfolding feeds
 feeds-forced x a pool u i none = refl
-feeds-forced x a pool u i (some (isOpen r bytes)) = refl
+feeds-forced x a pool u i (some (isOpen g r bytes)) = refl
 feeds-forced x a pool u i (some (completed c)) = refl
 feeds-forced x a pool u i (some wasRefused) = refl
 
@@ -94,20 +92,20 @@ kept-out false y e = refl
 
 module _ (x : Start) (a : Alones) (pool : List ℕ) (reply : Reply) (m : Made) where
   abbrev heardBy : Alones
-  heardBy = heard (x .opening) (plansOf x) (x .lengths) a pool m reply
+  heardBy = heard (x .opening) (x .lengths) a pool m reply
 
   heard-other : (t : ℕ) → Listed m → brought t m ≡ none → heardBy .ops t ≡ a .ops t
   unfolding heard heardCall
   heard-other t (brings-to u i br) q =
       ap (λ (y : Alones). y .ops t) (br .heard-is x a pool reply) ∙ feeds-other x a pool u t i (a .ops u) (eqb-false u t (kept-out (eqb u t) i (sym (br .under t) ∙ q)))
-  heard-other t (takes e) q = ap (λ (n : Made). heard (x .opening) (plansOf x) (x .lengths) a pool n reply .ops t) e
-  heard-other t (looks-up y e) q = ap (λ (n : Made). heard (x .opening) (plansOf x) (x .lengths) a pool n reply .ops t) e
+  heard-other t (takes e) q = ap (λ (n : Made). heard (x .opening) (x .lengths) a pool n reply .ops t) e
+  heard-other t (looks-up y e) q = ap (λ (n : Made). heard (x .opening) (x .lengths) a pool n reply .ops t) e
 
   heard-forced : Listed m → heardBy .forced ≡ a .forced
   unfolding heard heardCall
   heard-forced (brings-to u i br) = ap (λ (y : Alones). y .forced) (br .heard-is x a pool reply) ∙ feeds-forced x a pool u i (a .ops u)
-  heard-forced (takes e) = ap (λ (n : Made). heard (x .opening) (plansOf x) (x .lengths) a pool n reply .forced) e
-  heard-forced (looks-up y e) = ap (λ (n : Made). heard (x .opening) (plansOf x) (x .lengths) a pool n reply .forced) e
+  heard-forced (takes e) = ap (λ (n : Made). heard (x .opening) (x .lengths) a pool n reply .forced) e
+  heard-forced (looks-up y e) = ap (λ (n : Made). heard (x .opening) (x .lengths) a pool n reply .forced) e
 
 module _ (x : Start) (s : State) (a : Alones) (e : Event) (l : isListed (e .made) ≡ true) where
   pub next-other : (t : ℕ) → brought t (e .made) ≡ none → nextAlone x s a e .ops t ≡ a .ops t
@@ -136,65 +134,62 @@ module _ (x : Start) (s : State) (a : Alones) (k : Reached x s a) (e : Event) (w
     k₁ = reached-left x s a k (e .leaves) w
 
     -- none is open under the tag
-    pub shut : (c : Course) → ((r : Row) (bytes : List ℕ) → c ≡ isOpen r bytes → ⊥) → a .ops t ≡ some c → nextAlone x s a e .ops t ≡ some c
+    pub shut : (c : Course) → ((g : Plan) (r : Row) (bytes : List ℕ) → c ≡ isOpen g r bytes → ⊥) → a .ops t ≡ some c → nextAlone x s a e .ops t ≡ some c
     unfolding pick
     shut c n op = by-lengths (true-or-false (eqLengths (e .lengths) (x .lengths)))
       where
         by-lengths : (eqLengths (e .lengths) (x .lengths) ≡ true) ⊎ (eqLengths (e .lengths) (x .lengths) ≡ false) → nextAlone x s a e .ops t ≡ some c
         by-lengths (inl q) =
-            ap (λ (y : Alones). y .ops t) (alone-to x s a k e w t i bt true q ∙ feeds-none x a (e .leaves) t i (a .ops t) (λ r bytes z. n r bytes (let y = sym op ∙ z in cc))) ∙ op
+            ap (λ (y : Alones). y .ops t) (alone-to x s a k e w t i bt true q ∙ feeds-none x a (e .leaves) t i (a .ops t) (λ g r bytes z. n g r bytes (let y = sym op ∙ z in cc))) ∙ op
         by-lengths (inr q) = ap (λ (y : Alones). y .ops t) (alone-to x s a k e w t i bt false q) ∙ op
 
-    module _ (r : Row) (bytes : List ℕ) (op : a .ops t ≡ some (isOpen r bytes)) where
-      abbrev g : Plan
-      g = getD (plansOf x) (r .handle) (planIn [])
-
+    module _ (g : Plan) (r : Row) (bytes : List ℕ) (op : a .ops t ≡ some (isOpen g r bytes)) where
       abbrev f : Fate
-      f = fate x s a k e w t i bt r bytes op
+      f = fate x s a k e w t i bt g r bytes op
 
       abbrev same : Bool
       same = eqLengths (e .lengths) (x .lengths)
 
       -- turned away
-      away-course : isAway (replyTo s e) ≡ true → nextAlone x s a e .ops t ≡ some (isOpen r bytes)
+      away-course : isAway (replyTo s e) ≡ true → nextAlone x s a e .ops t ≡ some (isOpen g r bytes)
       unfolding replyTo
       away-course gone = by-lengths (true-or-false same)
         where
-          by-lengths : (same ≡ true) ⊎ (same ≡ false) → nextAlone x s a e .ops t ≡ some (isOpen r bytes)
+          by-lengths : (same ≡ true) ⊎ (same ≡ false) → nextAlone x s a e .ops t ≡ some (isOpen g r bytes)
           by-lengths (inl q) =
-              course-is x s a k e w t i bt r bytes op q
-              ∙ ap some (settled-away s₁ t r bytes f (fits-is x s a k e w t i bt r bytes op) (ap (λ (y : State × Reply). isAway (y .1)) (sym (met-is x s a k e w t i bt r bytes op q)) ∙ gone))
-          by-lengths (inr q) = course-other x s a k e w t i bt r bytes op q
+              course-is x s a k e w t i bt g r bytes op q
+              ∙ ap some (settled-away s₁ t g r bytes f (fits-is x s a k e w t i bt g r bytes op) (ap (λ (y : State × Reply). isAway (y .1)) (sym (met-is x s a k e w t i bt g r bytes op q)) ∙ gone))
+          by-lengths (inr q) = course-other x s a k e w t i bt g r bytes op q
 
       -- what is left in the piece is all that is read of the pool
       left-is : left ≡ take (loose g (r .awaits)) (stretch (x .opening .capacity) (r .buffer) (e .leaves))
-      unfolding leftIn planAt bytesAt leave
+      unfolding leftIn planAt bytesAt leave regionAt
       left-is =
-          ap (leftIn s₁) (row-is x s a k e w t i bt r bytes op)
-          ∙ (λ j. take (loose (k₁ .fixed .plans (r .handle) j) (r .awaits)) (stretch (k .fixed .settings j .capacity) (r .buffer) (e .leaves)))
+          ap (leftIn s₁) (row-is x s a k e w t i bt g r bytes op)
+          ∙ (λ j. take (loose (k .projected .only t g r bytes op .2 j) (r .awaits)) (stretch (k .fixed .settings j .capacity) (r .buffer) (e .leaves)))
 
       -- and not
-      heard-course : isAway (replyTo s e) ≡ false → nextAlone x s a e .ops t ≡ some (fedBy x (a .forced) (a .first) (isOpen r bytes) (i, left))
+      heard-course : isAway (replyTo s e) ≡ false → nextAlone x s a e .ops t ≡ some (fedBy x (a .forced) (a .first) (isOpen g r bytes) (i, left))
       unfolding fedBy aloneFate
       heard-course taken = by-lengths (true-or-false same)
         where
           read : withLeft (loose g (r .awaits)) (stretch (x .opening .capacity) (r .buffer) (e .leaves)) bytes ≡ withLeft (loose g (r .awaits)) left bytes
           read = sym (left-enough (loose g (r .awaits)) (stretch (x .opening .capacity) (r .buffer) (e .leaves)) bytes) ∙ ap (λ (y : List ℕ). withLeft (loose g (r .awaits)) y bytes) (sym left-is)
 
-          by-lengths : (same ≡ true) ⊎ (same ≡ false) → nextAlone x s a e .ops t ≡ some (fedBy x (a .forced) (a .first) (isOpen r bytes) (i, left))
+          by-lengths : (same ≡ true) ⊎ (same ≡ false) → nextAlone x s a e .ops t ≡ some (fedBy x (a .forced) (a .first) (isOpen g r bytes) (i, left))
           by-lengths (inl q) =
-              course-is x s a k e w t i bt r bytes op q ∙ ap (λ (y : List ℕ). some (onward r bytes (rules (x .opening) g (a .forced (r .handle)) (a .first) r y i))) read
+              course-is x s a k e w t i bt g r bytes op q ∙ ap (λ (y : List ℕ). some (onward g r bytes (rules (x .opening) g (a .forced (r .handle)) (a .first) r y i))) read
           by-lengths (inr q) = absurd (not-both (other-length x s a k e w t i bt q .0) taken)
 
     brought-course : (c : Course) → a .ops t ≡ some c → Comes c (pick (isAway (replyTo s e)) [] ((i, left) ∷ []))
     unfolding courseBy fedBy pick
-    brought-course (isOpen r bytes) op = by-reply (isAway (replyTo s e)) refl
+    brought-course (isOpen g r bytes) op = by-reply (isAway (replyTo s e)) refl
       where
-        by-reply : (b : Bool) → isAway (replyTo s e) ≡ b → Comes (isOpen r bytes) (pick b [] ((i, left) ∷ []))
-        by-reply true q = away-course r bytes op q
-        by-reply false q = heard-course r bytes op q
-    brought-course (completed c) op = let z = shut (completed c) (λ r bytes z. clash (cc)) op in by-pick (isAway (replyTo s e)) (Comes (completed c)) (λ q. z) (λ q. z)
-    brought-course wasRefused op = let z = shut wasRefused (λ r bytes z. clash (cc)) op in by-pick (isAway (replyTo s e)) (Comes wasRefused) (λ q. z) (λ q. z)
+        by-reply : (b : Bool) → isAway (replyTo s e) ≡ b → Comes (isOpen g r bytes) (pick b [] ((i, left) ∷ []))
+        by-reply true q = away-course g r bytes op q
+        by-reply false q = heard-course g r bytes op q
+    brought-course (completed c) op = let z = shut (completed c) (λ g r bytes z. clash (cc)) op in by-pick (isAway (replyTo s e)) (Comes (completed c)) (λ q. z) (λ q. z)
+    brought-course wasRefused op = let z = shut wasRefused (λ g r bytes z. clash (cc)) op in by-pick (isAway (replyTo s e)) (Comes wasRefused) (λ q. z) (λ q. z)
 
   pub course-next : (c : Course) → a .ops t ≡ some c → Comes c (givenBy s e t)
   unfolding givenBy givenAs courseBy

@@ -16,10 +16,10 @@ use Rattle.model.specs.declared.Row.{Row}
 use Rattle.model.specs.State.{State}
 use Rattle.step.specs.Rules.{Input, Fate, Fate.away, Fate.awaits, Fate.ends, Fate.rejected}
 use Rattle.step.specs.Step.{rowAt, bytesAt, awaitsNow, settled, eqLengths}
-use Rattle.step.specs.Laws.{Event, leave, next}
+use Rattle.step.specs.Run.{Event, leave, next, Start}
 use Rattle.step.specs.Lists.{brought, HostMay, isBrought, Given, givenBy, given, Completed, withBytes, addedBy, gets}
 use Rattle.step.specs.Alone.{Course, Course.isOpen, Course.completed, Course.wasRefused, Alones, onward, alones}
-use Rattle.step.specs.Demand3.{Start, Fits, StepsAlone}
+use Rattle.step.specs.Demand3.{Fits, StepsAlone}
 use Rattle.step.proofs.AloneTags.{clash}
 use Rattle.step.proofs.ListsBrought.{Brings, brings}
 use Rattle.step.proofs.ListsCame.{not-rejected, fair-under}
@@ -28,32 +28,33 @@ use Rattle.step.proofs.ListsWalk.{host-may, listed, behind, fair-next, 
 use Rattle.step.proofs.ProjectionReached.{Reached, nextAlone, runAlone, reached-left}
 use Rattle.step.proofs.ProjectionSteps.{fate, fate-is, met-is, course-is, course-other, named, row-is, steps-alone}
 use Rattle.step.proofs.QuietCourse.{fedBy, courseBy, course-append, next-other, next-forced, course-next, shut}
+use Rattle.model.specs.Opening.{Plan}
 
 -- ---- courses
 
 -- the completion of a course
 unfoldable pub doneOf : Course → List Completed
-doneOf (isOpen r bytes) = []
+doneOf (isOpen g r bytes) = []
 doneOf (completed c) = c ∷ []
 doneOf wasRefused = []
 
 -- the operation of a course has the buffer b
 unfoldable pub InBuffer : ℕ → Course → Type 0
-InBuffer b (isOpen r bytes) = r .buffer ≡ b
+InBuffer b (isOpen g r bytes) = r .buffer ≡ b
 InBuffer b (completed c) = Unit {0}
 InBuffer b wasRefused = Unit {0}
 
-onward-buffer : (b : ℕ) (r : Row) (bytes : List ℕ) (f : Fate) → r .buffer ≡ b → InBuffer b (onward r bytes f)
+onward-buffer : (b : ℕ) (g : Plan) (r : Row) (bytes : List ℕ) (f : Fate) → r .buffer ≡ b → InBuffer b (onward g r bytes f)
 unfolding onward InBuffer awaitsNow
-onward-buffer b r bytes (away f) e = e
-onward-buffer b r bytes (awaits a bytes′) e = e
-onward-buffer b r bytes (ends o c bytes′ cause) e = tt
-onward-buffer b r bytes (rejected f c bytes′) e = tt
+onward-buffer b g r bytes (away f) e = e
+onward-buffer b g r bytes (awaits a bytes′) e = e
+onward-buffer b g r bytes (ends ending) e = tt
+onward-buffer b g r bytes (rejected f c bytes′) e = tt
 
 module _ (x : Start) (forced : ℕ → Bool) (first : Poisoned) (b : ℕ) where
   fed-buffer : (c : Course) (v : Given) → InBuffer b c → InBuffer b (fedBy x forced first c v)
   unfolding fedBy InBuffer
-  fed-buffer (isOpen r bytes) v e = onward-buffer b r bytes _ e
+  fed-buffer (isOpen g r bytes) v e = onward-buffer b g r bytes _ e
   fed-buffer (completed c) v e = tt
   fed-buffer wasRefused v e = tt
 
@@ -88,22 +89,22 @@ module _ (x : Start) (s : State) (a : Alones) (k : Reached x s a) (e : Event) (e
     br = brings (e .made) t i bt
 
     -- an open operation is not refused
-    module _ (r : Row) (bytes : List ℕ) (op : a .ops t ≡ some (isOpen r bytes)) where
-      by-fate : eqLengths (e .lengths) (x .lengths) ≡ true → (g : Fate) → fate x s a k e w t i bt r bytes op ≡ g → onward r bytes g ≡ wasRefused → ⊥
+    module _ (g : Plan) (r : Row) (bytes : List ℕ) (op : a .ops t ≡ some (isOpen g r bytes)) where
+      by-fate : eqLengths (e .lengths) (x .lengths) ≡ true → (f′ : Fate) → fate x s a k e w t i bt g r bytes op ≡ f′ → onward g r bytes f′ ≡ wasRefused → ⊥
       unfolding onward rowAt leave
       by-fate q (away u) z c = clash (cc)
       by-fate q (awaits v bs) z c = clash (cc)
-      by-fate q (ends o b bs cause) z c = clash (cc)
+      by-fate q (ends ending) z c = clash (cc)
       by-fate q (rejected u b bs) z c =
-          not-rejected s₁ (reached-left x s a k (e .leaves) w .sound) (e .lengths) (e .made) t i br (named x s a k e w t i bt r bytes op) (fair-under s₁ (e .lengths) (e .made) t i br (fair-next x s a k e es f)) u b bs (fate-is x s a k e w t i bt r bytes op ∙ z)
-          (met-is x s a k e w t i bt r bytes op q ∙ (λ j. settled s₁ t (sym (row-is x s a k e w t i bt r bytes op) j) (z j)))
+          not-rejected s₁ (reached-left x s a k (e .leaves) w .sound) (e .lengths) (e .made) t i br (named x s a k e w t i bt g r bytes op) (fair-under s₁ (e .lengths) (e .made) t i br (fair-next x s a k e es f)) u b bs (fate-is x s a k e w t i bt g r bytes op ∙ z)
+          (met-is x s a k e w t i bt g r bytes op q ∙ (λ j. settled s₁ t (sym (row-is x s a k e w t i bt g r bytes op) j) (z j)))
 
       not-refused : nextAlone x s a e .ops t ≡ some wasRefused → ⊥
       not-refused c = by-lengths (true-or-false (eqLengths (e .lengths) (x .lengths)))
         where
           by-lengths : (eqLengths (e .lengths) (x .lengths) ≡ true) ⊎ (eqLengths (e .lengths) (x .lengths) ≡ false) → ⊥
-          by-lengths (inl q) = by-fate q (fate x s a k e w t i bt r bytes op) refl (let z = sym (course-is x s a k e w t i bt r bytes op q) ∙ c in cc)
-          by-lengths (inr q) = clash (let z = sym (course-other x s a k e w t i bt r bytes op q) ∙ c in cc)
+          by-lengths (inl q) = by-fate q (fate x s a k e w t i bt g r bytes op) refl (let z = sym (course-is x s a k e w t i bt g r bytes op q) ∙ c in cc)
+          by-lengths (inr q) = clash (let z = sym (course-other x s a k e w t i bt g r bytes op q) ∙ c in cc)
 
     -- ---- what it gets
 
@@ -115,36 +116,36 @@ module _ (x : Start) (s : State) (a : Alones) (k : Reached x s a) (e : Event) (e
     st = steps-alone x s a k e w t i bt
 
     -- an open one: by how far it comes
-    adds-open : (r : Row) (bytes : List ℕ) (b : ℕ) → a .ops t ≡ some (isOpen r bytes) → r .buffer ≡ b → (c : Course) → nextAlone x s a e .ops t ≡ some c → adds s e b ≡ doneOf c
+    adds-open : (g : Plan) (r : Row) (bytes : List ℕ) (b : ℕ) → a .ops t ≡ some (isOpen g r bytes) → r .buffer ≡ b → (c : Course) → nextAlone x s a e .ops t ≡ some c → adds s e b ≡ doneOf c
     unfolding doneOf addedBy withBytes
-    adds-open r bytes b op buf (isOpen r′ bytes′) q = adds-none b (st .goes-on r r′ bytes bytes′ op q)
-    adds-open r bytes b op buf (completed c) q =
-        let z = st .completes r bytes c op q in
+    adds-open g r bytes b op buf (isOpen g′ r′ bytes′) q = adds-none b (st .goes-on g g′ r r′ bytes bytes′ op q)
+    adds-open g r bytes b op buf (completed c) q =
+        let z = st .completes g r bytes c op q in
         ap (λ (cs : List Completion). withBytes (bytesAt (next s e) b) (drop (length (s .ready)) cs)) (z .0)
         ∙ ap (withBytes (bytesAt (next s e) b)) (drop-append-seam (s .ready) (c .0 ∷ []))
         ∙ ap (λ (bs : List ℕ). (c .0, bs) ∷ []) (ap (bytesAt (next s e)) (sym buf) ∙ z .1)
-    adds-open r bytes b op buf wasRefused q = adds-none b (st .refused r bytes op q)
+    adds-open g r bytes b op buf wasRefused q = adds-none b (st .refused g r bytes op q)
 
     -- one that is not: it stays, and nothing is added
-    module _ (c : Course) (n : (r : Row) (bytes : List ℕ) → c ≡ isOpen r bytes → ⊥) (op : a .ops t ≡ some c) where
+    module _ (c : Course) (n : (g : Plan) (r : Row) (bytes : List ℕ) → c ≡ isOpen g r bytes → ⊥) (op : a .ops t ≡ some c) where
       shut-same : (c′ : Course) → nextAlone x s a e .ops t ≡ some c′ → c ≡ c′
       shut-same c′ q = let z = sym (shut x s a k e w (listed x s a k e es f) t i bt c n op) ∙ q in cc
 
       adds-shut : (b : ℕ) (c′ : Course) → nextAlone x s a e .ops t ≡ some c′ → doneOf c ++ adds s e b ≡ doneOf c′
       unfolding leave
       adds-shut b c′ q =
-          ap (λ (cs : List Completed). doneOf c ++ cs) (adds-none b (ap (λ (y : State). y .ready) (st .none-open (λ r bytes z. n r bytes (let y = sym op ∙ z in cc)) .1)))
+          ap (λ (cs : List Completed). doneOf c ++ cs) (adds-none b (ap (λ (y : State). y .ready) (st .none-open (λ g r bytes z. n g r bytes (let y = sym op ∙ z in cc)) .1)))
           ∙ append-nil (doneOf c) ∙ ap doneOf (shut-same c′ q)
 
     adds-more : (c : Course) → a .ops t ≡ some c → (b : ℕ) → InBuffer b c → (c′ : Course) → nextAlone x s a e .ops t ≡ some c′ → doneOf c ++ adds s e b ≡ doneOf c′
     unfolding doneOf InBuffer
-    adds-more (isOpen r bytes) op b buf c′ q = adds-open r bytes b op buf c′ q
-    adds-more (completed c) op b buf c′ q = adds-shut (completed c) (λ r bytes z. clash (cc)) op b c′ q
-    adds-more wasRefused op b buf c′ q = adds-shut wasRefused (λ r bytes z. clash (cc)) op b c′ q
+    adds-more (isOpen g r bytes) op b buf c′ q = adds-open g r bytes b op buf c′ q
+    adds-more (completed c) op b buf c′ q = adds-shut (completed c) (λ g r bytes z. clash (cc)) op b c′ q
+    adds-more wasRefused op b buf c′ q = adds-shut wasRefused (λ g r bytes z. clash (cc)) op b c′ q
 
     kept-on : (c : Course) → a .ops t ≡ some c → c ≢ wasRefused → nextAlone x s a e .ops t ≢ some wasRefused
-    kept-on (isOpen r bytes) op n q = not-refused r bytes op q
-    kept-on (completed c) op n q = n (shut-same (completed c) (λ r bytes z. clash (cc)) op wasRefused q)
+    kept-on (isOpen g r bytes) op n q = not-refused g r bytes op q
+    kept-on (completed c) op n q = n (shut-same (completed c) (λ g r bytes z. clash (cc)) op wasRefused q)
     kept-on wasRefused op n q = absurd (n refl)
 
   -- whatever the event brings

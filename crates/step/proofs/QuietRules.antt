@@ -37,7 +37,7 @@ use Rattle.step.proofs.Picked.{by-pick}
 unfoldable pub Calm : Fate → Type 0
 Calm (away f) = Unit {0}
 Calm (awaits a bytes) = Unit {0}
-Calm (ends o b bytes cause) = cause ≡ none
+Calm (ends ending) = (ending .cause) ≡ none
 Calm (rejected e b bytes) = ⊥
 
 -- a whole count is the piece's

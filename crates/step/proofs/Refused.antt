@@ -29,8 +29,7 @@ use Rattle.model.specs.declared.Call.the-variants.{Answer}
 use Rattle.model.specs.State.{Owner.host, Owner.lost, State, freed}
 use Rattle.model.specs.Opening.{Plan}
 use Rattle.step.specs.Questions.{isHost, regionAt, heldAt}
-use Rattle.step.specs.Rules.{rangeOf, bufferAs, errorOf, isWritten, lastPiece, abovePiece, isRefusal, firstRefused, isWhole, goesOn, pieceLength, pieceAnswered, answerRules, rules}
-use Rattle.step.specs.Rules.{Input.answered, Fate, Fate.rejected}
+use Rattle.step.specs.Rules.{rangeOf, bufferAs, errorOf, isWritten, lastPiece, abovePiece, isRefusal, firstRefused, isWhole, goesOn, pieceLength, pieceAnswered, answerRules, rules, Input.answered, Fate, Fate.rejected}
 use Rattle.step.specs.Step.{rowAt, rowOf, names, bytesAt, oneLess, keptBy, poisonWith, freeing, planOf, rejection, settled, fateOf, underTag, called, eqLengths, step}
 use Rattle.step.specs.Sound.{Sound}
 use Rattle.step.specs.Lists.{isAway}

@@ -12,7 +12,8 @@ use Rattle.model.specs.declared.Row.{Row}
 use Rattle.model.specs.State.{Owner, Owner.lost, State, freed, awaiting, liveRows}
 use Rattle.step.specs.Questions.{regionAt}
 use Rattle.step.specs.Step.{rowAt}
-use Rattle.step.specs.Sound.{times, rowHolds, rowsHold, readyHold, tableHas, InTable, Sound}
+use Rattle.step.specs.Sound.{rowHolds, rowsHold, readyHold, tableHas, InTable, Sound}
+use Rattle.step.specs.Lists.{times}
 use Rattle.step.proofs.Places.{by-place}
 use Rattle.step.proofs.Counts.{live-set, hold-set}
 use Rattle.step.proofs.Marked.{in-another}

@@ -24,12 +24,10 @@ use Rattle.model.specs.declared.Row.{Row}
 use Rattle.model.specs.declared.Call.the-variants.{Write, Take}
 use Rattle.model.specs.declared.Asked.the-variants.{Yes}
 use Rattle.model.specs.State.{Owner.host, Owner.table, State, freed, upFrom}
-use Rattle.model.specs.Opening.{atFirst, opened}
-use Rattle.model.specs.Memory.{planIn, plansIn}
+use Rattle.model.specs.Opening.{atFirst, opened, planIn, plansIn}
 use Rattle.step.specs.Questions.{ask, firstNo, handleNamesRegion, bufferInPool, isHost, heldAt, hostHoldsBuffer, roomInTable, lifetimeLeft, gateOpen, storeWritable, unpoisoned}
 use Rattle.step.specs.Questions.{regionWritable, volumeAndRegionMatch, generationMatches, lengthAbove0, writeOnBlock, aligned, withinData, regionAt, idOf, writeQuestions}
-use Rattle.step.specs.Rules.{firstOf, lastOf, pieceOf, pieceLength, bufferAs, turnedBack, isWritten, ticketOf, writtenAs, lastPiece, abovePiece, isRefusal, firstRefused, isWhole, goesOn, pieceAnswered, answerRules, rules}
-use Rattle.step.specs.Rules.{Input.answered, Fate.ends}
+use Rattle.step.specs.Rules.{firstOf, lastOf, pieceOf, pieceLength, bufferAs, turnedBack, isWritten, ticketOf, writtenAs, lastPiece, abovePiece, isRefusal, firstRefused, isWhole, goesOn, pieceAnswered, answerRules, rules, Input.answered, Fate.ends}
 use Rattle.step.specs.Step.{durableAs, claimedBy, oneMore, accepted, rowOf, generationOf, isLive, names, bytesAt, raised, oneLess, keptBy, poisonWith, freeing, planOf, completionOf, settled, fateOf, underTag, givenBack, taken}
 use Rattle.step.specs.Step.{queueTag, topOf, rowAt, verdictOf, writeVerdict, submitted, eqLengths, called, step}
 use Rattle.step.specs.Figures.{figuresPlan, figuresLengths, asking, answers, tableAfter, longOpening, longTable, round, rounds}
@@ -82,7 +80,7 @@ module _ (pool : List ℕ) where
   unfolding isLive rowAt held accepted at claimedBy freed
   named g n t e = names-by (row g n) t refl (sym e)
 
-  fate : (g n : ℕ) → fateOf (held g n) (row g n) (answered (Count 512) true 0) ≡ ends (Written ticket) (Back 0 512) (turned 512 512 (bytesAt (held g n) 0)) none
+  fate : (g n : ℕ) → fateOf (held g n) (row g n) (answered (Count 512) true 0) ≡ ends (record { outcome = Written ticket; buffer = Back 0 512; bytes = turned 512 512 (bytesAt (held g n) 0); cause = none })
   unfolding fateOf rowAt held accepted claimedBy at rules answerRules pieceAnswered pieceLength pieceOf firstOf lastOf lastPiece pick abovePiece firstRefused isRefusal goesOn isWhole isWritten
       writtenAs bufferAs turnedBack ticketOf planOf regionAt atFirst plansIn planIn figuresPlan mapIn runsIn longOpening asking durableAs spanFrom runOf runEnd runLeft place pieceSize ticket
   fate g n = refl

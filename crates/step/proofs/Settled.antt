@@ -30,9 +30,9 @@ module _ (s : State) (i : Sound s) (t : ℕ) where
   unfolding settled Fitting
   keeps-settled found (away f) w = i
   keeps-settled found (awaits a bytes) w = keeps-going s i (rowOf t) (named-below s i t found) (named-live s i t found) a (w .0) bytes (w .1)
-  keeps-settled found (ends o b bytes cause) w =
+  keeps-settled found (ends ending) w =
       keeps-freeing s i (rowOf t) (named-below s i t found) (named-live s i t found) (raised (row .generation)) (raised-small (row .generation))
-      (completionOf row o b ∷ []) (keptBy table b) (goes-completed (row .buffer) row o b (w .0)) bytes cause (w .1)
+      (completionOf row (ending .outcome) (ending .buffer) ∷ []) (keptBy table (ending .buffer)) (goes-completed (row .buffer) row (ending .outcome) (ending .buffer) (w .0)) (ending .bytes) (ending .cause) (w .1)
   keeps-settled found (rejected e b bytes) w =
       keeps-freeing s i (rowOf t) (named-below s i t found) (named-live s i t found) (row .generation) (i .generations (rowOf t) (named-below s i t found))
       [] (keptBy host b) (goes-back (row .buffer) b) bytes none (w .2)

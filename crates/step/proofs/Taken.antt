@@ -9,7 +9,8 @@ use lib.ListN.{length, drop}
 use lib.Seq.{drop-cons}
 use Rattle.model.specs.State.{State, awaiting}
 use Rattle.step.specs.Step.{topOf, rowAt}
-use Rattle.step.specs.Sound.{times, Sound}
+use Rattle.step.specs.Sound.{Sound}
+use Rattle.step.specs.Lists.{times}
 use Rattle.step.proofs.Counts.{times-same, times-other}
 
 module _ (s : State) (i : Sound s) (room : s .counts .live + s .counts .ready < s .settings .depth) where

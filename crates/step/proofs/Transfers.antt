@@ -4,8 +4,8 @@ use Prim.Native.Nat.{ℕ, _+_, _<_}
 use native.Mathlib.Nat.{add-left-cancel}
 use native.Mathlib.Omega.{arith}
 use lib.ListN.{length}
-use Rattle.transfer.specs.Transfer.{CardAndPool, wrote, readIn, whole, Accepted, Distinct, OneWrite, OneRead}
-use Rattle.transfer.proofs.Theorem.{transfers}
+use Rattle.posix.specs.Transfer.{CardAndPool, wrote, readIn, whole, Accepted, Distinct, OneWrite, OneRead}
+use Rattle.posix.proofs.Theorem.{transfers}
 use Rattle.model.specs.declared.Request.{Request}
 use Rattle.model.specs.State.{State}
 use Rattle.step.specs.Questions.{regionAt}

@@ -1,7 +1,7 @@
--- Demand 2, by POSIX: from any table that calls have left, "the pieces of an accepted page operation, each taken whole with its buffer back and no other
--- operation writing its bytes meanwhile, act together like one transfer of every byte to or from its mapped card offset, and touch no other byte".
--- Stated over the table's own replies, rows and pool, with any other calls in between. The card follows what the row under a tag awaits (`cardBy`); that is what the
--- last reply under the tag asks the host for: `.asked` below. Proved in proofs/Demand2.antt (demand2).
+-- Demand 2, by POSIX: from any table that calls have left, "the pieces of an accepted page operation, each taken whole with its buffer back and no
+-- other operation writing its bytes meanwhile, act together like one transfer of every byte to or from its mapped card offset, and touch no other
+-- byte". Stated over the table's own replies, rows and pool, with any other calls in between. The card follows what the row under a tag awaits
+-- (`cardBy`); that is what the last reply under the tag asks the host for: `.asked` below. Proved in proofs/Demand2.antt (demand2).
 use mathlib.Core.Path.{_≡_}
 use mathlib.Core.Logic.{_≢_, _⊎_}
 use mathlib.Core.Bool.{Bool, true, false, _||_}
@@ -14,78 +14,84 @@ use Rattle.layout.specs.Pick.{pick}
 use Rattle.regionmap.specs.Map.{Map, place, pieces}
 use Rattle.iobuf.specs.Turn.{stretch}
 use Rattle.posix.specs.Posix.{Card, pread}
-use Rattle.transfer.specs.Transfer.{gathered}
+use Rattle.posix.specs.Transfer.{gathered}
 use Rattle.domain.specs.declared.Poisoned.{Poisoned}
 use Rattle.platform.specs.declared.Flushed.{Flushed}
 use Rattle.completion.specs.declared.WriteTicket.{WriteTicket}
 use Rattle.completion.specs.declared.Outcome.{Outcome}
-use Rattle.completion.specs.declared.Outcome.the-variants.{Written, Receipt, Read as readTo, Unknown, Interrupted, Corruption, Io, QueueFull, Poisoned as poisonedBy}
-use Rattle.completion.specs.declared.Buffer.the-variants.{Back}
+use Rattle.completion.specs.declared.Outcome.the-variants as Outcome
+use Rattle.completion.specs.declared.Buffer.the-variants as Buffer
 use Rattle.completion.specs.declared.Completion.{Completion}
 use Rattle.completion.specs.declared.Reply.{Reply}
-use Rattle.completion.specs.declared.Reply.the-variants.{Piece as piece, No as turnedAway, Rejected, Done, Flush as flushAsked, Took, None as noneReady, Ok, Writes, Mark}
+use Rattle.completion.specs.declared.Reply.the-variants as Reply
 use Rattle.model.specs.declared.Opening.{Opening}
 use Rattle.model.specs.declared.Kind.{Kind}
-use Rattle.model.specs.declared.Kind.the-variants.{Page, Read}
+use Rattle.model.specs.declared.Kind.the-variants as Kind
 use Rattle.model.specs.declared.Split.{Split}
 use Rattle.model.specs.declared.Awaits.{Awaits}
-use Rattle.model.specs.declared.Awaits.the-variants.{Nothing, Piece, Flush}
+use Rattle.model.specs.declared.Awaits.the-variants as Awaits
 use Rattle.model.specs.declared.Row.{Row}
 use Rattle.model.specs.declared.Request.{Request}
-use Rattle.model.specs.declared.Call.the-variants.{Write, ReadPage}
+use Rattle.model.specs.declared.Call.the-variants as Call
 use Rattle.model.specs.State.{State}
 use Rattle.model.specs.Opening.{Plan}
-use Rattle.step.specs.Questions.{regionAt}
-use Rattle.step.specs.Rules.{firstOf, pieceLength, isWhole, Input, Input.answered, Input.flushed, ticketOf, unflushed, flushOutcome}
+use Rattle.step.specs.Questions.{regionAt, byteAt, wholeOf}
+use Rattle.step.specs.Rules.{firstOf, pieceLength, isWhole, Input, Input.answered, Input.flushed, ticketOf, unflushed, flushOutcome, leftOf}
 use Rattle.step.specs.Step.{startOf, endOf, rowOf, rowAt, bytesAt, planOf, asksFor, names}
 use Rattle.step.specs.Sound.{Sound}
-use Rattle.step.specs.Laws.{Made, Made.calls, Event, leave, next, run, replyTo}
+use Rattle.step.specs.Run.{Made, Made.calls, Event, leave, next, run, replyTo, Start, openedBy, after}
 use Rattle.step.specs.Lists.{brought, isAway, planAt, leftIn, Given, given, tagIn, Completed, gets, cardBy, cardAfter, Hosted, HostMay}
 use Rattle.step.specs.Alone.{tagGiven}
-use Rattle.step.specs.Demand3.{Start, openedBy, after}
 
 -- ---- the suppositions
 
 -- a piece "taken whole with its buffer back"
 unfoldable pub WholeTo : State → Row → Awaits → Input → Type 0
-WholeTo s r Nothing i = Unit {0}
-WholeTo s r (Piece k sp) (answered x back flushes) = (isWhole (pieceLength (planAt s r) k sp) x ≡ true) × (back ≡ true)
-WholeTo s r (Piece k sp) (flushed result) = Unit {0}
-WholeTo s r (Flush t) i = Unit {0}
+WholeTo s r Awaits.Nothing i = Unit {0}
+WholeTo s r (Awaits.Piece k sp) (answered x back flushes) = (isWhole (pieceLength (planAt s r) k sp) x ≡ true) × (back ≡ true)
+WholeTo s r (Awaits.Piece k sp) (flushed result) = Unit {0}
+WholeTo s r (Awaits.Flush t) i = Unit {0}
 
 -- a read's piece holds the card's bytes at its offset, as pread leaves them there
 unfoldable pub HoldsCard : State → Row → Awaits → Card → Type 0
-HoldsCard s r Nothing card = Unit {0}
-HoldsCard s r (Piece (Page a b) sp) card = Unit {0}
-HoldsCard s r (Piece (Read a b) sp) card = leftIn s r ≡ pread card (place (planAt s r .map) (a .0 + sp .done)) (pieceLength (planAt s r) (Read a b) sp)
-HoldsCard s r (Flush t) card = Unit {0}
+HoldsCard s r Awaits.Nothing card = Unit {0}
+HoldsCard s r (Awaits.Piece (Kind.Page a b) sp) card = Unit {0}
+HoldsCard s r (Awaits.Piece (Kind.Read a b) sp) card =
+    leftIn s r ≡ pread card (place (planAt s r .map) (byteAt (a .0) (sp .done))) (pieceLength (planAt s r) (Kind.Read a b) sp)
+HoldsCard s r (Awaits.Flush t) card = Unit {0}
 
 -- of each answer under the queue tag t that is not turned away
 unfoldable pub TakenWhole : State → Event → ℕ → Card → Type 0
 TakenWhole s e t card = (i : Input) → brought t (e .made) ≡ some i → isAway (replyTo s e) ≡ false
-    → WholeTo s (rowAt s (rowOf t)) (rowAt s (rowOf t) .awaits) i × HoldsCard (leave s (e .leaves)) (rowAt s (rowOf t)) (rowAt s (rowOf t) .awaits) card
+    → WholeTo s (rowAt s (rowOf t)) (rowAt s (rowOf t) .awaits) i
+    × HoldsCard (leave s (e .leaves)) (rowAt s (rowOf t)) (rowAt s (rowOf t) .awaits) card
 
 -- a card byte of the piece under way of a write
 pub record InPiece (g : Plan) (k : Kind) (sp : Split) (y : ℕ) : Type 0 where
   pub j : ℕ
   pub inside : j < pieceLength g k sp
-  pub at : place (g .map) (firstOf k .0 + sp .done) + j ≡ y
+  pub at : place (g .map) (byteAt (firstOf k .0) (sp .done)) + j ≡ y
 
 unfoldable pub BeingWritten : Plan → Awaits → ℕ → Type 0
-BeingWritten g Nothing y = ⊥
-BeingWritten g (Piece (Page a b) sp) y = InPiece g (Page a b) sp y
-BeingWritten g (Piece (Read a b) sp) y = ⊥
-BeingWritten g (Flush t) y = ⊥
+BeingWritten g Awaits.Nothing y = ⊥
+BeingWritten g (Awaits.Piece (Kind.Page a b) sp) y = InPiece g (Kind.Page a b) sp y
+BeingWritten g (Awaits.Piece (Kind.Read a b) sp) y = ⊥
+BeingWritten g (Awaits.Flush t) y = ⊥
 
--- "no other operation writing its bytes meanwhile": no piece of another write is under way on a card byte of the request's range, however it is answered
+-- "no other operation writing its bytes meanwhile": no piece of another write is under way on a card byte of the request's range, however it is
+-- answered
 unfoldable pub Undisturbed : State → ℕ → Request → Type 0
-Undisturbed s t q = (r i y : ℕ) → r ≢ rowOf t → BeingWritten (planAt s (rowAt s r)) (rowAt s r .awaits) y → i < q .length → place (regionAt s (q .handle) .map) (q .offset .0 + i) ≡ y → ⊥
+Undisturbed s t q =
+    (r i y : ℕ) → r ≢ rowOf t → BeingWritten (planAt s (rowAt s r)) (rowAt s r .awaits) y → i < wholeOf q
+    → place (regionAt s (q .handle) .map) (byteAt (q .offset .0) i) ≡ y → ⊥
 
--- a list of events, whatever their calls, through which the operation under the queue tag t is served so, until it ends; the card changes as the table's
--- pieces say
+-- a list of events, whatever their calls, through which the operation under the queue tag t is served so, until it ends; the card changes as the
+-- table's pieces say
 unfoldable pub Served : State → List Event → ℕ → Request → Card → Type 0
 Served s [] t q card = Unit {0}
-Served s (e ∷ es) t q card = (names (rowAt s (rowOf t)) t ≡ true) × HostMay s (e .leaves) × TakenWhole s e t card × Undisturbed s t q × Served (next s e) es t q (cardBy s e card)
+Served s (e ∷ es) t q card =
+    (names (rowAt s (rowOf t)) t ≡ true) × HostMay s (e .leaves) × TakenWhole s e t card × Undisturbed s t q
+    × Served (next s e) es t q (cardBy s e card)
 
 -- ---- the claim
 
@@ -105,9 +111,9 @@ submittedIn x h e = next (after x h) e
 
 -- the operation has no piece under way any more
 unfoldable pub NoPiece : Awaits → Type 0
-NoPiece Nothing = Unit {0}
-NoPiece (Piece k s) = ⊥
-NoPiece (Flush t) = Unit {0}
+NoPiece Awaits.Nothing = Unit {0}
+NoPiece (Awaits.Piece k s) = ⊥
+NoPiece (Awaits.Flush t) = Unit {0}
 
 -- done with its pieces: the tag names no row, or one that awaits its flush
 unfoldable pub PiecesDone : State → ℕ → Type 0
@@ -139,14 +145,14 @@ unfoldable pub answersIn : List Given → ℕ
 answersIn [] = 0
 answersIn (g ∷ gs) = answersOf (g .0) (answersIn gs)
 
--- what a write comes to whose pieces were all taken whole, with the ticket of its own range: "Plain ends there." "Durable without either ends Poisoned if the
--- store is poisoned, else with a receipt of need 2^64 − 1." "A flush result completes the row".
+-- what a write comes to whose pieces were all taken whole, with the ticket of its own range: "Plain ends there." "Durable without either ends
+-- Poisoned if the store is poisoned, else with a receipt of need 2^64 − 1." "A flush result completes the row".
 unfoldable pub durablyTo : Opening → Poisoned → WriteTicket → Option Flushed → Outcome
 durablyTo o first t none = unflushed o first t
 durablyTo o first t (some result) = flushOutcome o t result
 
 unfoldable pub writtenTo : Opening → Poisoned → Bool → WriteTicket → Option Flushed → Outcome
-writtenTo o first durable t result = pick durable (durablyTo o first t result) (Written t)
+writtenTo o first durable t result = pick durable (durablyTo o first t result) (Outcome.Written t)
 
 -- the operation under a queue tag is over: its tag names no row any more
 abbrev pub Over : State → ℕ → Type 0
@@ -159,35 +165,42 @@ givenTo x h e t es = given (submittedIn x h e) es t
 abbrev pub getsIn : Start → List Event → Event → ℕ → Request → List Event → List Completed
 getsIn x h e t q es = gets (submittedIn x h e) es t (q .buffer)
 
--- the piece awaited after so many answers is of the request's range, and the first of the map's pieces behind as many: those are the pieces of the bytes left
+-- the piece awaited after so many answers is of the request's range, and the first of the map's pieces behind as many: those are the pieces of the
+-- bytes left
 pub record ToCome (m : Map) (q : Request) (answers : ℕ) (k : Kind) (sp : Split) : Type 0 where
   pub start : firstOf k ≡ q .offset
-  pub total : sp .total ≡ q .length
-  pub behind : drop answers (pieces m (q .offset .0) (q .length)) ≡ pieces m (q .offset .0 + sp .done) (sp .total - sp .done)
+  pub total : sp .total ≡ wholeOf q
+  pub behind : drop answers (pieces m (q .offset .0) (wholeOf q)) ≡ pieces m (byteAt (q .offset .0) (sp .done)) (leftOf sp)
 
--- which pieces are issued, and how many: ".. and one that issues nothing fail demand 2. One that issues the first piece and then reports the whole fails 2 and 3."
+-- which pieces are issued, and how many: ".. and one that issues nothing fail demand 2. One that issues the first piece and then reports the whole
+-- fails 2 and 3."
 pub record Issues (x : Start) (h : List Event) (e : Event) (t : ℕ) (q : Request) (es : List Event) : Type 0 where
-  pub awaited : (k : Kind) (sp : Split) → names (rowAt (run (submittedIn x h e) es) (rowOf t)) t ≡ true → rowAt (run (submittedIn x h e) es) (rowOf t) .awaits ≡ Piece k sp
+  pub awaited : (k : Kind) (sp : Split) → names (rowAt (run (submittedIn x h e) es) (rowOf t)) t ≡ true
+      → rowAt (run (submittedIn x h e) es) (rowOf t) .awaits ≡ Awaits.Piece k sp
       → ToCome (regionAt (after x h) (q .handle) .map) q (answersIn (givenTo x h e t es)) k sp
   -- they come to an end: given as many answers as the map has pieces for its range, the operation is done with them
-  pub ends : length (pieces (regionAt (after x h) (q .handle) .map) (q .offset .0) (q .length)) ≤ answersIn (givenTo x h e t es) → PiecesDone (run (submittedIn x h e) es) t
+  pub ends : length (pieces (regionAt (after x h) (q .handle) .map) (q .offset .0) (wholeOf q)) ≤ answersIn (givenTo x h e t es)
+      → PiecesDone (run (submittedIn x h e) es) t
   -- and not before
-  pub not-before : PiecesDone (run (submittedIn x h e) es) t → length (pieces (regionAt (after x h) (q .handle) .map) (q .offset .0) (q .length)) ≤ answersIn (givenTo x h e t es)
+  pub not-before : PiecesDone (run (submittedIn x h e) es) t
+      → length (pieces (regionAt (after x h) (q .handle) .map) (q .offset .0) (wholeOf q)) ≤ answersIn (givenTo x h e t es)
 
 pub record Wrote (x : Start) (h : List Event) (e : Event) (t : ℕ) (q : Request) (card : Card) (es : List Event) : Type 0 where
   -- once its pieces are done every byte has arrived at its mapped card offset
   pub arrived : PiecesDone (run (submittedIn x h e) es) t
-      → (i : ℕ) → i < q .length → cardAfter (submittedIn x h e) es card (place (regionAt (after x h) (q .handle) .map) (q .offset .0 + i)) ≡ getD (bufferThen x e q) i 0
-  -- once it is over it has got one completion: the host's tag, its buffer at its whole length with the bytes that it held at acceptance, and what such a write comes to, by the
-  -- flush count of its last answer, its flush result, and the poison at the end
+      → (i : ℕ) → i < wholeOf q → cardAfter (submittedIn x h e) es card (place (regionAt (after x h) (q .handle) .map) (byteAt (q .offset .0) i))
+      ≡ getD (bufferThen x e q) i 0
+  -- once it is over it has got one completion: the host's tag, its buffer at its whole length with the bytes that it held at acceptance, and what
+  -- such a write comes to, by the flush count of its last answer, its flush result, and the poison at the end
   pub completes : Over (run (submittedIn x h e) es) t
       → getsIn x h e t q es
       ≡ (
         record {
           tag = q .tag;
           outcome = writtenTo (x .opening) (run (submittedIn x h e) es .poison) (q .durable)
-              (ticketOf (x .opening) (planOf (regionAt (after x h) (q .handle))) (Page (startOf q) (endOf q)) (countGiven 0 (givenTo x h e t es))) (resultGiven (givenTo x h e t es));
-          buf = Back (q .buffer) (q .length);
+              (ticketOf (x .opening) (planOf (regionAt (after x h) (q .handle))) (Kind.Page (startOf q) (endOf q))
+              (countGiven 0 (givenTo x h e t es))) (resultGiven (givenTo x h e t es));
+          buf = Buffer.Back (q .buffer) (wholeOf q);
         },
         bufferThen x e q,
       )
@@ -205,7 +218,11 @@ pub record DidRead (x : Start) (h : List Event) (e : Event) (t : ℕ) (q : Reque
   -- the card's bytes of the whole range, and behind them the buffer's own
   pub completes : Over (run (submittedIn x h e) es) t
       → getsIn x h e t q es
-      ≡ (record { tag = q .tag; outcome = readTo (q .length); buf = Back (q .buffer) (q .length) }, gathered card (regionAt (after x h) (q .handle) .map) (q .offset .0) (q .length) ++ drop (q .length) (bufferThen x e q))
+      ≡ (
+        record { tag = q .tag; outcome = Outcome.Read (wholeOf q); buf = Buffer.Back (q .buffer) (wholeOf q) },
+        gathered card
+            (regionAt (after x h) (q .handle) .map) (q .offset .0) (wholeOf q) ++ drop (wholeOf q) (bufferThen x e q),
+      )
       ∷ []
   -- with its pieces done it is over
   pub over : PiecesDone (run (submittedIn x h e) es) t → Over (run (submittedIn x h e) es) t
@@ -223,34 +240,35 @@ Followed s (e ∷ es) t = (names (rowAt s (rowOf t)) t ≡ true) × HostMay s (e
 unfoldable pub AllWhole : State → List Event → ℕ → Type 0
 AllWhole s [] t = Unit {0}
 AllWhole s (e ∷ es) t =
-    ((i : Input) → brought t (e .made) ≡ some i → isAway (replyTo s e) ≡ false → WholeTo s (rowAt s (rowOf t)) (rowAt s (rowOf t) .awaits) i) × AllWhole (next s e) es t
+    ((i : Input) → brought t (e .made) ≡ some i → isAway (replyTo s e) ≡ false → WholeTo s (rowAt s (rowOf t)) (rowAt s (rowOf t) .awaits) i)
+    × AllWhole (next s e) es t
 
 -- a completion that counts a write as kept: written, with a receipt or without
 unfoldable pub isKept : Outcome → Bool
-isKept (Written t) = true
-isKept (Receipt t r) = true
-isKept (readTo n) = false
-isKept (Unknown r c) = false
-isKept (Interrupted r) = false
-isKept (Corruption r) = false
-isKept (Io r o e) = false
-isKept (QueueFull r) = false
-isKept (poisonedBy c) = false
+isKept (Outcome.Written t) = true
+isKept (Outcome.Receipt t r) = true
+isKept (Outcome.Read n) = false
+isKept (Outcome.Unknown r c) = false
+isKept (Outcome.Interrupted r) = false
+isKept (Outcome.Corruption r) = false
+isKept (Outcome.Io r o e) = false
+isKept (Outcome.QueueFull r) = false
+isKept (Outcome.Poisoned c) = false
 
 -- ---- what the replies ask the host for
 
 -- a reply that speaks of the operation under the queue tag t
 unfoldable pub under : ℕ → Reply → Bool
-under t (piece u o n b) = eqb u t
-under t (turnedAway f) = false
-under t (Rejected g o e b) = false
-under t (Done u) = eqb u t
-under t (flushAsked u n) = eqb u t
-under t (Took c) = false
-under t noneReady = false
-under t Ok = false
-under t (Writes w) = false
-under t (Mark m) = false
+under t (Reply.Piece u o n b) = eqb u t
+under t (Reply.No f) = false
+under t (Reply.Rejected g o e b) = false
+under t (Reply.Done u) = eqb u t
+under t (Reply.Flush u n) = eqb u t
+under t (Reply.Took c) = false
+under t Reply.None = false
+under t Reply.Ok = false
+under t (Reply.Writes w) = false
+under t (Reply.Mark m) = false
 
 -- the last reply of a list of events that does, or r where none does
 unfoldable pub lastReply : State → List Event → ℕ → Reply → Reply
@@ -262,23 +280,31 @@ abbrev pub asksUnder : State → ℕ → Reply
 asksUnder s t = let r = rowAt s (rowOf t) in asksFor (planAt s r) t (r .buffer) (r .awaits)
 
 pub record Demand2 : Type 0 where
-  pub write : (x : Start) (h : List Event) (e : Event) (t : ℕ) (q : Request) → Accepted x h e t q (calls (Write q)) → (card : Card) (es : List Event)
+  pub write : (x : Start) (h : List Event) (e : Event) (t : ℕ) (q : Request) → Accepted x h e t q (calls (Call.Write q))
+      → (card : Card) (es : List Event)
       → Served (submittedIn x h e) es t q card → Wrote x h e t q card es
-  pub read : (x : Start) (h : List Event) (e : Event) (t : ℕ) (q : Request) → Accepted x h e t q (calls (ReadPage q)) → (card : Card) (es : List Event)
+  pub read : (x : Start) (h : List Event) (e : Event) (t : ℕ) (q : Request) → Accepted x h e t q (calls (Call.ReadPage q))
+      → (card : Card) (es : List Event)
       → Served (submittedIn x h e) es t q card → DidRead x h e t q card es
-  -- a write that is counted as kept had all of its pieces answered, and each taken whole with its buffer back, in whatever order and form the card answered
-  pub kept : (x : Start) (h : List Event) (e : Event) (t : ℕ) (q : Request) → Accepted x h e t q (calls (Write q)) → (es : List Event) → Followed (submittedIn x h e) es t
+  -- a write that is counted as kept had all of its pieces answered, and each taken whole with its buffer back, in whatever order and form the card
+  -- answered
+  pub kept : (x : Start) (h : List Event) (e : Event) (t : ℕ) (q : Request) → Accepted x h e t q (calls (Call.Write q)) → (es : List Event)
+      → Followed (submittedIn x h e) es t
       → (c : Completion) (bytes : List ℕ) (more : List Completed) → getsIn x h e t q es ≡ (c, bytes) ∷ more → isKept (c .outcome) ≡ true
-      → AllWhole (submittedIn x h e) es t × (length (pieces (regionAt (after x h) (q .handle) .map) (q .offset .0) (q .length)) ≤ answersIn (givenTo x h e t es))
-  -- "The reply is the first piece: card offset, buffer, count."; "and the next piece is the reply"; "keeps the row and replies with tag and need". As long as an operation
-  -- is open, whatever calls come between and whatever the card answers, the last reply under its queue tag asks for just the piece or the flush that its row awaits: a
-  -- host that transfers what the replies ask for transfers what `cardBy` says
-  pub asked : (x : Start) (h : List Event) (e : Event) (t : ℕ) (q : Request) (made : Made) → (made ≡ calls (Write q)) ⊎ (made ≡ calls (ReadPage q)) → Accepted x h e t q made
+      → AllWhole (submittedIn x h e) es t
+      × (length (pieces (regionAt (after x h) (q .handle) .map) (q .offset .0) (wholeOf q)) ≤ answersIn (givenTo x h e t es))
+  -- "The reply is the first piece: card offset, buffer, count."; "and the next piece is the reply"; "keeps the row and replies with tag and need". As
+  -- long as an operation is open, whatever calls come between and whatever the card answers, the last reply under its queue tag asks for just the
+  -- piece or the flush that its row awaits: a host that transfers what the replies ask for transfers what `cardBy` says
+  pub asked : (x : Start) (h : List Event) (e : Event) (t : ℕ) (q : Request) (made : Made)
+      → (made ≡ calls (Call.Write q)) ⊎ (made ≡ calls (Call.ReadPage q)) → Accepted x h e t q made
       → (es : List Event) → Followed (submittedIn x h e) es t → names (rowAt (run (submittedIn x h e) es) (rowOf t)) t ≡ true
       → lastReply (submittedIn x h e) es t (replyTo (after x h) e) ≡ asksUnder (run (submittedIn x h e) es) t
-  -- "and touch no other byte", of card or pool: an answer changes no card byte but those of its own operation's piece under way, and no call a byte of a buffer that is not
-  -- the buffer of the live row that its tag names
-  pub card-others : (s : State) (e : Event) (card : Card) (y : ℕ) → let r = rowAt s (rowOf (tagIn (e .made))) in (BeingWritten (planAt s r) (r .awaits) y → ⊥) → cardBy s e card y ≡ card y
+  -- "and touch no other byte", of card or pool: an answer changes no card byte but those of its own operation's piece under way, and no call a byte
+  -- of a buffer that is not the buffer of the live row that its tag names
+  pub card-others : (s : State) (e : Event) (card : Card) (y : ℕ)
+      → let r = rowAt s (rowOf (tagIn (e .made))) in (BeingWritten (planAt s r) (r .awaits) y → ⊥) → cardBy s e card y ≡ card y
   pub pool-others : (s : State) (e : Event) (b : ℕ) → Sound (leave s (e .leaves)) → b < s .settings .buffers
-      → ((i : Input) → brought (tagIn (e .made)) (e .made) ≡ some i → names (rowAt s (rowOf (tagIn (e .made)))) (tagIn (e .made)) ≡ true → rowAt s (rowOf (tagIn (e .made))) .buffer ≢ b)
+      → ((i : Input) → brought (tagIn (e .made)) (e .made) ≡ some i → names (rowAt s (rowOf (tagIn (e .made)))) (tagIn (e .made)) ≡ true
+      → rowAt s (rowOf (tagIn (e .made))) .buffer ≢ b)
       → bytesAt (next s e) b ≡ bytesAt (leave s (e .leaves)) b

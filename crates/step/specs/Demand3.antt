@@ -1,10 +1,11 @@
--- Demand 3: "Whatever order the storage card answers in: from any table that calls after an opening have left, where no open write shares mapped card bytes
--- with another open operation, take any two lists of answers, flush results, takings and lookups, turned-away ones included, until all open operations are
--- done. .. Then each operation open at first gets in both exactly one completion, and its buffer as completed, equal to those of document 01's operation
--- alone; the set of free rows, the generations and the card's bytes, equal at first, agree; free plus live rows equal the depth after every call."
--- An answer under a live tag is taken to be for the piece that the row awaits: all pieces of an operation have one tag, and a tag is issued again after a refused
--- first piece, so a second answer to an earlier piece or to an earlier use of the tag cannot be told apart (only a count above the piece is caught, 16).
--- Beside it the projection, of any history: an operation in the table is the operation alone. Proved in proofs/ (Demand3: demand3; Projection: projection).
+-- Demand 3: "Whatever order the storage card answers in: from any table that calls after an opening have left, where no open write shares mapped card
+-- bytes with another open operation, take any two lists of answers, flush results, takings and lookups, turned-away ones included, until all open
+-- operations are done. .. Then each operation open at first gets in both exactly one completion, and its buffer as completed, equal to those of
+-- document 01's operation alone; the set of free rows, the generations and the card's bytes, equal at first, agree; free plus live rows equal the
+-- depth after every call." An answer under a live tag is taken to be for the piece that the row awaits: all pieces of an operation have one tag, and
+-- a tag is issued again after a refused first piece, so a second answer to an earlier piece or to an earlier use of the tag cannot be told apart
+-- (only a count above the piece is caught, 16). Beside it the projection, of any history: an operation in the table is the operation alone. Proved in
+-- proofs/ (Demand3: demand3; Projection: projection).
 use mathlib.Core.Path.{_≡_}
 use mathlib.Core.Logic.{_≢_}
 use mathlib.Core.Bool.{Bool, true, false}
@@ -14,49 +15,27 @@ use Prim.Native.Nat.{ℕ, _+_, _<_}
 use lib.ListN.{length, take, drop}
 use Rattle.regionmap.specs.Map.{place}
 use Rattle.posix.specs.Posix.{Card}
-use Rattle.model.specs.declared.Opening.{Opening}
-use Rattle.model.specs.declared.Lengths.{Lengths}
-use Rattle.model.specs.declared.Kind.the-variants.{Page, Read}
+use Rattle.model.specs.declared.Kind.the-variants as Kind
 use Rattle.model.specs.declared.Awaits.{Awaits}
-use Rattle.model.specs.declared.Awaits.the-variants.{Nothing, Piece, Flush}
+use Rattle.model.specs.declared.Awaits.the-variants as Awaits
 use Rattle.model.specs.declared.Row.{Row}
 use Rattle.model.specs.declared.Call.{Call}
-use Rattle.model.specs.declared.Call.the-variants.{Write, ReadPage, Answer as answer, Flushed as flushResult, Take, SetGate, SetReadOnly, SetForced, ReportPoison}
+use Rattle.model.specs.declared.Call.the-variants as Call
 use Rattle.model.specs.State.{State, liveRows}
-use Rattle.model.specs.Opening.{Plan, opened}
-use Rattle.model.specs.Memory.{plansIn, opens}
-use Rattle.step.specs.Questions.{regionAt}
-use Rattle.step.specs.Rules.{pieceLength, isWhole, isRefusal, Input, Input.answered, Input.flushed}
-use Rattle.step.specs.Step.{rowOf, rowAt, bytesAt, isLive, names, settled, eqLengths}
-use Rattle.step.specs.Sound.{times, rangeStart, rangeEnd}
-use Rattle.step.specs.Laws.{Made, Made.calls, Made.looks, Event, leave, done, next, run, replyTo}
-use Rattle.step.specs.Lists.{brought, isAway, loose, planAt, given, Completed, gets, added, takings, cardAfter, Hosted, HostMay, tagAt, tagIn}
-use Rattle.step.specs.Alone.{Course, Course.isOpen, Course.completed, Course.wasRefused, Alones, noneYet, aloneFate, alones}
+use Rattle.step.specs.Questions.{regionAt, byteAt}
+use Rattle.step.specs.Rules.{pieceLength, isWhole, isRefusal, Input, Input.answered, Input.flushed, rangeStart, rangeEnd}
+use Rattle.step.specs.Step.{rowOf, rowAt, bytesAt, isLive, names, settled, eqLengths, planOf}
+use Rattle.step.specs.Lists.{times, brought, isAway, loose, planAt, given, Completed, gets, added, takings, cardAfter, Hosted, HostMay, tagAt}
+use Rattle.step.specs.Lists.{tagIn}
+use Rattle.step.specs.Run.{Made, Made.calls, Made.looks, Event, leave, done, next, run, replyTo, Start, after, openedBy, plansOf}
+use Rattle.step.specs.Alone.{Course, Course.isOpen, Course.completed, Course.wasRefused, Alones, noneYet, aloneFate, alones, planFor}
+use Rattle.model.specs.Opening.{Plan}
 
--- ---- an opened table
-
-pub record Start : Type 0 where
-  pub opening : Opening
-  pub plan : List ℕ
-  pub lengths : Lengths
-  pub pool : List ℕ
-  pub admitted : opens opening plan lengths ≡ true
-  pub whole : length pool ≡ lengths .pool
-
--- its regions as the opening was given them
-unfoldable pub plansOf : Start → List Plan
-plansOf x = plansIn (x .opening .regions) (x .plan)
-
-unfoldable pub openedBy : Start → State
-openedBy x = opened (x .opening) (plansOf x) (x .lengths) (x .pool)
-
--- the table after a history
-unfoldable pub after : Start → List Event → State
-after x h = run (openedBy x) h
+-- ---- the operation alone
 
 -- every operation alone after a history
 unfoldable pub alonesAfter : Start → List Event → Alones
-alonesAfter x h = alones (x .opening) (plansOf x) (x .lengths) (openedBy x) noneYet h
+alonesAfter x h = alones (x .opening) (x .lengths) (openedBy x) (noneYet (plansOf x)) h
 
 -- the operation alone under a queue tag
 unfoldable pub aloneAt : Start → List Event → ℕ → Option Course
@@ -72,32 +51,39 @@ pub record Alike (s : State) (r : Row) (bytes : List ℕ) : Type 0 where
 -- the operation in a row is the one alone under its tag
 pub record IsAlone (s : State) (a : Alones) (r : ℕ) : Type 0 where
   pub bytes : List ℕ
-  pub same : a .ops (tagAt s r) ≡ some (isOpen (rowAt s r) bytes)
+  pub same : a .ops (tagAt s r) ≡ some (isOpen (planAt s (rowAt s r)) (rowAt s r) bytes)
   pub alike : Alike s (rowAt s r) bytes
 
 pub record Projected (s : State) (a : Alones) : Type 0 where
   -- each live row is an operation alone that is open
   pub each : (r : ℕ) → isLive (rowAt s r .awaits) ≡ true → IsAlone s a r
-  -- and each operation alone that is open is a live row's
-  pub only : (t : ℕ) (r : Row) (bytes : List ℕ) → a .ops t ≡ some (isOpen r bytes) → (names (rowAt s (rowOf t)) t ≡ true) × (rowAt s (rowOf t) ≡ r)
-  -- the marks and the first cause that it is fed are the table's
+  -- and each operation alone that is open is a live row's, with the plan of its region
+  pub only : (t : ℕ) (g : Plan) (r : Row) (bytes : List ℕ) → a .ops t ≡ some (isOpen g r bytes)
+      → (names (rowAt s (rowOf t)) t ≡ true) × (rowAt s (rowOf t) ≡ r) × (planAt s r ≡ g)
+  -- the plans, the marks and the first cause that it is fed are the table's
+  pub regions : length (a .plans) ≡ s .settings .regions
+  pub plans : (h : ℕ) → planFor a h ≡ planOf (regionAt s h)
   pub forced : (h : ℕ) → h < s .settings .regions → a .forced h ≡ regionAt s h .forced
   pub first : a .first ≡ s .poison
   pub count : a .count ≡ s .counts .submissions
 
--- an event that brings the input i to the operation under the queue tag t, from the table s and the operations alone a: the table does what is done alone
+-- an event that brings the input i to the operation under the queue tag t, from the table s and the operations alone a: the table does what is done
+-- alone
 pub record StepsAlone (x : Start) (s : State) (a a′ : Alones) (e : Event) (t : ℕ) (i : Input) : Type 0 where
   -- where none is open under the tag, or another length is lent, the event is turned away and changes nothing
-  pub none-open : ((r : Row) (bytes : List ℕ) → a .ops t ≡ some (isOpen r bytes) → ⊥) → (isAway (replyTo s e) ≡ true) × (next s e ≡ leave s (e .leaves))
+  pub none-open : ((g : Plan) (r : Row) (bytes : List ℕ) → a .ops t ≡ some (isOpen g r bytes) → ⊥)
+      → (isAway (replyTo s e) ≡ true) × (next s e ≡ leave s (e .leaves))
   pub another-length : eqLengths (e .lengths) (x .lengths) ≡ false → (isAway (replyTo s e) ≡ true) × (next s e ≡ leave s (e .leaves))
   -- where one is, the rules say of the row what they say of the operation alone, and that is what the table does
-  pub same-fate : (r : Row) (bytes : List ℕ) → a .ops t ≡ some (isOpen r bytes) → eqLengths (e .lengths) (x .lengths) ≡ true
-      → done (leave s (e .leaves)) (e .lengths) (e .made) ≡ settled (leave s (e .leaves)) t r (aloneFate (x .opening) (plansOf x) (x .lengths) a (e .leaves) r bytes i)
+  pub same-fate : (g : Plan) (r : Row) (bytes : List ℕ) → a .ops t ≡ some (isOpen g r bytes) → eqLengths (e .lengths) (x .lengths) ≡ true
+      → done (leave s (e .leaves)) (e .lengths) (e .made)
+      ≡ settled (leave s (e .leaves)) t r (aloneFate (x .opening) (x .lengths) a (e .leaves) g r bytes i)
   -- so a completion is added exactly if the operation alone ends with it, and with its buffer as completed
-  pub completes : (r : Row) (bytes : List ℕ) (c : Completed) → a .ops t ≡ some (isOpen r bytes) → a′ .ops t ≡ some (completed c)
+  pub completes : (g : Plan) (r : Row) (bytes : List ℕ) (c : Completed) → a .ops t ≡ some (isOpen g r bytes) → a′ .ops t ≡ some (completed c)
       → (next s e .ready ≡ s .ready ++ (c .0 ∷ [])) × (bytesAt (next s e) (r .buffer) ≡ c .1)
-  pub goes-on : (r r′ : Row) (bytes bytes′ : List ℕ) → a .ops t ≡ some (isOpen r bytes) → a′ .ops t ≡ some (isOpen r′ bytes′) → next s e .ready ≡ s .ready
-  pub refused : (r : Row) (bytes : List ℕ) → a .ops t ≡ some (isOpen r bytes) → a′ .ops t ≡ some wasRefused → next s e .ready ≡ s .ready
+  pub goes-on : (g g′ : Plan) (r r′ : Row) (bytes bytes′ : List ℕ) → a .ops t ≡ some (isOpen g r bytes) → a′ .ops t ≡ some (isOpen g′ r′ bytes′)
+      → next s e .ready ≡ s .ready
+  pub refused : (g : Plan) (r : Row) (bytes : List ℕ) → a .ops t ≡ some (isOpen g r bytes) → a′ .ops t ≡ some wasRefused → next s e .ready ≡ s .ready
 
 unfoldable pub Projection : Type 0
 Projection = (x : Start) (h : List Event) → Hosted (openedBy x) h
@@ -109,15 +95,15 @@ Projection = (x : Start) (h : List Event) → Hosted (openedBy x) h
 
 -- "answers, flush results, takings and lookups"; "nothing is submitted, set or reported poisoned"
 unfoldable pub listedCall : Call → Bool
-listedCall (Write q) = false
-listedCall (ReadPage q) = false
-listedCall (answer t a back flushes) = true
-listedCall (flushResult t result) = true
-listedCall Take = true
-listedCall (SetGate h x) = false
-listedCall (SetReadOnly h x) = false
-listedCall (SetForced h x) = false
-listedCall (ReportPoison c) = false
+listedCall (Call.Write q) = false
+listedCall (Call.ReadPage q) = false
+listedCall (Call.Answer t a back flushes) = true
+listedCall (Call.Flushed t result) = true
+listedCall Call.Take = true
+listedCall (Call.SetGate h x) = false
+listedCall (Call.SetReadOnly h x) = false
+listedCall (Call.SetForced h x) = false
+listedCall (Call.ReportPoison c) = false
 
 unfoldable pub isListed : Made → Bool
 isListed (calls c) = listedCall c
@@ -125,12 +111,13 @@ isListed (looks x) = true
 
 -- "write pieces are taken whole with their buffer back, no first piece is refused"
 unfoldable pub FairTo : State → Row → Awaits → Input → Type 0
-FairTo s r Nothing i = Unit {0}
-FairTo s r (Piece (Page a b) sp) (answered x back flushes) = (isWhole (pieceLength (planAt s r) (Page a b) sp) x ≡ true) × (back ≡ true)
-FairTo s r (Piece (Page a b) sp) (flushed result) = Unit {0}
-FairTo s r (Piece (Read a b) sp) (answered x back flushes) = sp .done ≡ 0 → isRefusal x ≡ false
-FairTo s r (Piece (Read a b) sp) (flushed result) = Unit {0}
-FairTo s r (Flush t) i = Unit {0}
+FairTo s r Awaits.Nothing i = Unit {0}
+FairTo s r (Awaits.Piece (Kind.Page a b) sp) (answered x back flushes) =
+    (isWhole (pieceLength (planAt s r) (Kind.Page a b) sp) x ≡ true) × (back ≡ true)
+FairTo s r (Awaits.Piece (Kind.Page a b) sp) (flushed result) = Unit {0}
+FairTo s r (Awaits.Piece (Kind.Read a b) sp) (answered x back flushes) = sp .done ≡ 0 → isRefusal x ≡ false
+FairTo s r (Awaits.Piece (Kind.Read a b) sp) (flushed result) = Unit {0}
+FairTo s r (Awaits.Flush t) i = Unit {0}
 
 -- of each answer that is not turned away
 unfoldable pub Fair : State → Event → Type 0
@@ -149,21 +136,22 @@ AllDone s = (r : ℕ) → isLive (rowAt s r .awaits) ≡ false
 -- the card bytes that an operation's range is mapped to
 pub record Mapped (s : State) (r : Row) (x : ℕ) : Type 0 where
   pub i : ℕ
-  pub inside : rangeStart (r .awaits) + i < rangeEnd (r .awaits)
-  pub at : place (regionAt s (r .handle) .map) (rangeStart (r .awaits) + i) ≡ x
+  pub inside : byteAt (rangeStart (r .awaits)) i < rangeEnd (r .awaits)
+  pub at : place (regionAt s (r .handle) .map) (byteAt (rangeStart (r .awaits)) i) ≡ x
 
 unfoldable pub isWrite : Awaits → Bool
-isWrite Nothing = false
-isWrite (Piece (Page a b) s) = true
-isWrite (Piece (Read a b) s) = false
-isWrite (Flush t) = true
+isWrite Awaits.Nothing = false
+isWrite (Awaits.Piece (Kind.Page a b) s) = true
+isWrite (Awaits.Piece (Kind.Read a b) s) = false
+isWrite (Awaits.Flush t) = true
 
 -- "no open write shares mapped card bytes with another open operation"
 unfoldable pub Apart : State → Type 0
-Apart s = (r k x : ℕ) → r ≢ k → isWrite (rowAt s r .awaits) ≡ true → isLive (rowAt s k .awaits) ≡ true → Mapped s (rowAt s r) x → Mapped s (rowAt s k) x → ⊥
+Apart s =
+    (r k x : ℕ) → r ≢ k → isWrite (rowAt s r .awaits) ≡ true → isLive (rowAt s k .awaits) ≡ true → Mapped s (rowAt s r) x → Mapped s (rowAt s k) x → ⊥
 
--- "Each piece and flush has one answer not turned away, alike in both lists: its form and numbers, every byte the host leaves in a read's piece, past the count
--- or before an error too, the flush count, whether a piece's buffer is back"
+-- "Each piece and flush has one answer not turned away, alike in both lists: its form and numbers, every byte the host leaves in a read's piece, past
+-- the count or before an error too, the flush count, whether a piece's buffer is back"
 unfoldable pub GivenAlike : State → List Event → List Event → Type 0
 GivenAlike s l₁ l₂ = (r : ℕ) → isLive (rowAt s r .awaits) ≡ true → given s l₁ (tagAt s r) ≡ given s l₂ (tagAt s r)
 
@@ -202,4 +190,5 @@ pub record Agreed (x : Start) (h : List Event) (card : Card) (l₁ l₂ : List E
   pub card-bytes : (b : ℕ) → cardAfter (after x h) l₁ card b ≡ cardAfter (after x h) l₂ card b
 
 unfoldable pub Demand3 : Type 0
-Demand3 = (x : Start) (h : List Event) → Hosted (openedBy x) h → (card : Card) (l₁ l₂ : List Event) → Supposed (after x h) l₁ l₂ → Agreed x h card l₁ l₂
+Demand3 =
+    (x : Start) (h : List Event) → Hosted (openedBy x) h → (card : Card) (l₁ l₂ : List Event) → Supposed (after x h) l₁ l₂ → Agreed x h card l₁ l₂

@@ -1,9 +1,8 @@
--- What is proved of every step: an opening leaves a sound table, and every call and every write of the host to the pool keeps it sound; a call that is
--- turned away changes nothing, and one with other lengths gets 13; the questions have the paper's numbers, in its order; the pieces of the map for an accepted
--- operation's range act like one transfer (Demand2 says it of the answers). Proved in proofs/Laws.antt (step-laws).
+-- What is proved of every step: an opening leaves a sound table, and every call and every write of the host to the pool keeps it sound; a call that
+-- is turned away changes nothing, and one with other lengths gets 13; the questions have the paper's numbers, in its order; the pieces of the map for
+-- an accepted operation's range act like one transfer (Demand2 says it of the answers). Proved in proofs/Laws.antt (step-laws).
 use mathlib.Core.Path.{_≡_}
 use mathlib.Core.Bool.{Bool, true, false}
-use mathlib.Core.Option.{some}
 use mathlib.Core.List.{List, [], _∷_, map}
 use Prim.Native.Nat.{ℕ, zero, suc, _+_}
 use lib.ListN.{length}
@@ -13,13 +12,12 @@ use Rattle.regionmap.specs.declared.FoundPiece.{FoundPiece}
 use Rattle.regionmap.specs.Map.{Map, place, pieces}
 use Rattle.regionmap.specs.Map.{Piece as MapPiece}
 use Rattle.regionmap.specs.Words.{offsetOf}
-use Rattle.transfer.specs.Transfer.{CardAndPool, Operation, wrote, readIn, whole, OneWrite, OneRead}
+use Rattle.posix.specs.Transfer.{CardAndPool, Operation, wrote, readIn, whole, OneWrite, OneRead}
 use Rattle.domain.specs.declared.FirstCause.{FirstCause}
-use Rattle.domain.specs.declared.Poisoned.the-variants.{First}
+use Rattle.domain.specs.declared.Poisoned.the-variants as Poisoned
 use Rattle.completion.specs.declared.Refusal.{Refusal}
-use Rattle.completion.specs.declared.Refusal.the-variants.{Unfit}
-use Rattle.completion.specs.declared.Reply.{Reply}
-use Rattle.completion.specs.declared.Reply.the-variants.{No as turnedAway}
+use Rattle.completion.specs.declared.Refusal.the-variants as Refusal
+use Rattle.completion.specs.declared.Reply.the-variants as Reply
 use Rattle.completion.specs.Numbers.{number}
 use Rattle.model.specs.declared.Opening.{Opening}
 use Rattle.model.specs.declared.Lengths.{Lengths}
@@ -28,58 +26,21 @@ use Rattle.model.specs.declared.Request.{Request}
 use Rattle.model.specs.declared.Call.{Call}
 use Rattle.model.specs.declared.Lookup.{Lookup}
 use Rattle.model.specs.declared.Asked.{Asked}
-use Rattle.model.specs.declared.Asked.the-variants.{Yes, No}
+use Rattle.model.specs.declared.Asked.the-variants as Asked
 use Rattle.model.specs.State.{State, Region}
-use Rattle.model.specs.Opening.{among, opened}
-use Rattle.model.specs.Memory.{plansIn, opens}
-use Rattle.step.specs.Questions.{regionAt, firstNo, writeQuestions, readQuestions}
+use Rattle.model.specs.Opening.{among, opened, plansIn, opens}
+use Rattle.step.specs.Questions.{regionAt, firstNo, writeQuestions, readQuestions, wholeOf}
 use Rattle.step.specs.Rules.{pieceOf}
-use Rattle.step.specs.Step.{begun, accepted, step, look, eqLengths}
+use Rattle.step.specs.Step.{begun, step, look, eqLengths}
+use Rattle.step.specs.Run.{Event, leave, run, Pools}
 use Rattle.step.specs.Sound.{Sound}
-
--- ---- histories
-
--- what a host makes: a call, or a lookup
-pub data Made : Type 0 where
-  calls : Call → Made
-  looks : Lookup → Made
-
--- the host leaves the pool in some way, then makes a call or a lookup, lending parts of some lengths
-pub record Event : Type 0 where
-  pub leaves : List ℕ
-  pub lengths : Lengths
-  pub made : Made
-
-unfoldable pub leave : State → List ℕ → State
-leave s pool =
-    record { settings = s .settings; lengths = s .lengths; regions = s .regions; poison = s .poison; counts = s .counts; rows = s .rows; free = s .free; ready = s .ready; owners = s .owners; pool = pool }
-
--- the next state and the reply; a lookup changes nothing
-unfoldable pub done : State → Lengths → Made → State × Reply
-done s l (calls c) = step s l c
-done s l (looks x) = (s, look s l x)
-
-unfoldable pub next : State → Event → State
-next s e = done (leave s (e .leaves)) (e .lengths) (e .made) .0
-
-unfoldable pub replyTo : State → Event → Reply
-replyTo s e = done (leave s (e .leaves)) (e .lengths) (e .made) .1
-
-unfoldable pub run : State → List Event → State
-run s [] = s
-run s (e ∷ es) = run (next s e) es
-
--- each event leaves as many pool bytes as there were
-unfoldable pub Pools : ℕ → List Event → Type 0
-Pools n [] = Unit {0}
-Pools n (e ∷ es) = (length (e .leaves) ≡ n) × Pools n es
 
 -- ---- numbers
 
 -- the answer is yes, or a refusal with one of these numbers
 unfoldable pub saysOne : List ℕ → Asked → Bool
-saysOne ns Yes = true
-saysOne ns (No f) = among (number f) ns
+saysOne ns Asked.Yes = true
+saysOne ns (Asked.No f) = among (number f) ns
 
 unfoldable pub SaysEach : List (List ℕ) → List Asked → Type 0
 SaysEach [] [] = Unit {0}
@@ -116,30 +77,36 @@ onCard m x = record { offset = offsetOf (place m (x .position)); count = x .coun
 
 -- the operation of a request, over a table's pool
 abbrev pub operationOf : State → Request → Operation
-operationOf s q = record { map = regionAt s (q .handle) .map; capacity = s .settings .capacity; buffer = q .buffer; start = q .offset .0; total = q .length }
+operationOf s q =
+    record { map = regionAt s (q .handle) .map; capacity = s .settings .capacity; buffer = q .buffer; start = q .offset .0; total = wholeOf q }
 
 pub record StepLaws : Type 0 where
-  pub opening : (o : Opening) (plan : List ℕ) (l : Lengths) (pool : List ℕ) → opens o plan l ≡ true → length pool ≡ l .pool → Sound (opened o (plansIn (o .regions) plan) l pool)
+  pub opening : (o : Opening) (plan : List ℕ) (l : Lengths) (pool : List ℕ) → opens o plan l ≡ true → length pool ≡ l .pool
+      → Sound (opened o (plansIn (o .regions) plan) l pool)
   pub keeps : (s : State) (l : Lengths) (c : Call) → Sound s → Sound (step s l c .0)
   -- the host's writes
   pub leaves : (s : State) (pool : List ℕ) → Sound s → length pool ≡ length (s .pool) → Sound (leave s pool)
   -- so every table that calls after an opening have left is sound
-  pub history : (o : Opening) (plan : List ℕ) (l : Lengths) (pool : List ℕ) → opens o plan l ≡ true → length pool ≡ l .pool → (es : List Event) → Pools (l .pool) es
+  pub history : (o : Opening) (plan : List ℕ) (l : Lengths) (pool : List ℕ) → opens o plan l ≡ true → length pool ≡ l .pool → (es : List Event)
+      → Pools (l .pool) es
       → Sound (run (opened o (plansIn (o .regions) plan) l pool) es)
   -- a call that is turned away changes nothing
-  pub turned-away : (s : State) (l : Lengths) (c : Call) (f : Refusal) → step s l c .1 ≡ turnedAway f → step s l c .0 ≡ s
+  pub turned-away : (s : State) (l : Lengths) (c : Call) (f : Refusal) → step s l c .1 ≡ Reply.No f → step s l c .0 ≡ s
   -- another length is asked before all else, of a call and of a lookup
-  pub another-length : (s : State) (l : Lengths) (c : Call) → eqLengths l (s .lengths) ≡ false → step s l c .1 ≡ turnedAway Unfit
-  pub another-length-looked : (s : State) (l : Lengths) (x : Lookup) → eqLengths l (s .lengths) ≡ false → look s l x ≡ turnedAway Unfit
+  pub another-length : (s : State) (l : Lengths) (c : Call) → eqLengths l (s .lengths) ≡ false → step s l c .1 ≡ Reply.No Refusal.Unfit
+  pub another-length-looked : (s : State) (l : Lengths) (x : Lookup) → eqLengths l (s .lengths) ≡ false → look s l x ≡ Reply.No Refusal.Unfit
   -- "the first cause kept": no call changes the poison of a poisoned store
-  pub first-kept : (s : State) (l : Lengths) (c : Call) (first : FirstCause) → s .poison ≡ First first → step s l c .0 .poison ≡ First first
+  pub first-kept : (s : State) (l : Lengths) (c : Call) (first : FirstCause) → s .poison ≡ Poisoned.First first
+      → step s l c .0 .poison ≡ Poisoned.First first
   -- the questions have the paper's numbers, in its order
   pub write-numbers : (s : State) (g : Region) (q : Request) → SaysEach writeNumbers (writeQuestions s g q)
   pub read-numbers : (s : State) (g : Region) (q : Request) → SaysEach readNumbers (readQuestions s g q)
   -- the pieces of an operation are the map's for its range
   pub issued : (m : Map) (start total : ℕ) → issuedUpTo total m start (begun total) ≡ map (onCard m) (pieces m start total)
   -- and those of an accepted one, each taken whole, act like one transfer, over any pool of the table's length
-  pub write : (s : State) (q : Request) → Sound s → firstNo (writeQuestions s (regionAt s (q .handle)) q) ≡ Yes → (x : CardAndPool) → length (x .pool) ≡ s .lengths .pool
+  pub write : (s : State) (q : Request) → Sound s → firstNo (writeQuestions s (regionAt s (q .handle)) q) ≡ Asked.Yes → (x : CardAndPool)
+      → length (x .pool) ≡ s .lengths .pool
       → OneWrite (operationOf s q) x (whole wrote (operationOf s q) x)
-  pub read : (s : State) (q : Request) → Sound s → firstNo (readQuestions s (regionAt s (q .handle)) q) ≡ Yes → (x : CardAndPool) → length (x .pool) ≡ s .lengths .pool
+  pub read : (s : State) (q : Request) → Sound s → firstNo (readQuestions s (regionAt s (q .handle)) q) ≡ Asked.Yes → (x : CardAndPool)
+      → length (x .pool) ≡ s .lengths .pool
       → OneRead (operationOf s q) x (whole readIn (operationOf s q) x)

@@ -1,4 +1,5 @@
--- What a list of calls gives each operation, and what the operation gets: by its queue tag, from the events, the table's replies, and what the table holds.
+-- What a list of calls gives each operation, and what the operation gets: by its queue tag, from the events, the table's replies, and what the table
+-- holds.
 use mathlib.Core.Path.{_≡_}
 use mathlib.Core.Logic.{_⊎_}
 use mathlib.Core.Bool.{Bool, true, false}
@@ -12,58 +13,96 @@ use Rattle.regionmap.specs.Map.{place}
 use Rattle.iobuf.specs.Turn.{stretch}
 use Rattle.posix.specs.Posix.{Card, pwrite}
 use Rattle.completion.specs.declared.Completion.{Completion}
+use Rattle.completion.specs.declared.Refusal.{Refusal}
 use Rattle.completion.specs.declared.Reply.{Reply}
-use Rattle.completion.specs.declared.Reply.the-variants.{Piece as piece, No as turnedAway, Rejected, Done, Flush as flushAsked, Took, None as noneReady, Ok, Writes, Mark}
-use Rattle.model.specs.declared.Kind.the-variants.{Page, Read}
+use Rattle.completion.specs.declared.Reply.the-variants as Reply
+use Rattle.model.specs.declared.Kind.the-variants as Kind
 use Rattle.model.specs.declared.Awaits.{Awaits}
-use Rattle.model.specs.declared.Awaits.the-variants.{Nothing, Piece, Flush}
+use Rattle.model.specs.declared.Awaits.the-variants as Awaits
 use Rattle.model.specs.declared.Row.{Row}
 use Rattle.model.specs.declared.Call.{Call}
-use Rattle.model.specs.declared.Call.the-variants.{Write, ReadPage, Answer as answer, Flushed as flushResult, Take, SetGate, SetReadOnly, SetForced, ReportPoison}
+use Rattle.model.specs.declared.Call.the-variants as Call
 use Rattle.model.specs.State.{State}
 use Rattle.model.specs.Opening.{Plan}
-use Rattle.step.specs.Questions.{regionAt, heldAt}
+use Rattle.step.specs.Questions.{regionAt, heldAt, byteAt}
 use Rattle.step.specs.Rules.{pieceLength, isWhole, Input, Input.answered, Input.flushed}
 use Rattle.step.specs.Step.{queueTag, rowOf, rowAt, bytesAt, planOf, isLive}
-use Rattle.step.specs.Laws.{Made, Made.calls, Made.looks, Event, leave, next, replyTo}
+use Rattle.step.specs.Run.{Made, Made.calls, Made.looks, Event, leave, next, replyTo}
+
+abbrev pub isSome : {A : Type 0} → Option A → Bool
+isSome none = false
+isSome (some x) = true
+
+-- how often a number stands in a list
+unfoldable pub times : ℕ → List ℕ → ℕ
+times x [] = 0
+times x (y ∷ ys) = pick (eqb x y) 1 0 + times x ys
 
 -- ---- what an event brings to an operation
 
--- what is fed to the operation under the queue tag t: an answer or a flush result under it
+-- a call as far as it brings something: the queue tag of an answer or a flush result, and what is fed to the operation there
+abbrev pub arrival : Call → Option (ℕ × Input)
+arrival (Call.Write q) = none
+arrival (Call.ReadPage q) = none
+arrival (Call.Answer t a back flushes) = some (t, answered a back flushes)
+arrival (Call.Flushed t result) = some (t, flushed result)
+arrival Call.Take = none
+arrival (Call.SetGate h x) = none
+arrival (Call.SetReadOnly h x) = none
+arrival (Call.SetForced h x) = none
+arrival (Call.ReportPoison c) = none
+
+-- its queue tag, and what it brings to the operation under the queue tag t
+abbrev pub tagOf : Option (ℕ × Input) → ℕ
+tagOf none = 0
+tagOf (some x) = x .0
+
+abbrev pub underIt : ℕ → Option (ℕ × Input) → Option Input
+underIt t none = none
+underIt t (some x) = pick (eqb (x .0) t) (some (x .1)) none
+
 unfoldable pub broughtBy : ℕ → Call → Option Input
-broughtBy t (Write q) = none
-broughtBy t (ReadPage q) = none
-broughtBy t (answer t′ a back flushes) = pick (eqb t′ t) (some (answered a back flushes)) none
-broughtBy t (flushResult t′ result) = pick (eqb t′ t) (some (flushed result)) none
-broughtBy t Take = none
-broughtBy t (SetGate h x) = none
-broughtBy t (SetReadOnly h x) = none
-broughtBy t (SetForced h x) = none
-broughtBy t (ReportPoison c) = none
+broughtBy t c = underIt t (arrival c)
 
 unfoldable pub brought : ℕ → Made → Option Input
 brought t (calls c) = broughtBy t c
 brought t (looks x) = none
 
+unfoldable pub tagIn : Made → ℕ
+tagIn (calls c) = tagOf (arrival c)
+tagIn (looks x) = 0
+
+-- a reply as far as the demands look at it: its refusal, the queue tag of the piece that it issues, the completion that it hands over
+pub record View : Type 0 where
+  pub refusal : Option Refusal
+  pub issues : Option ℕ
+  pub hands : List Completion
+
+abbrev pub plainView : View
+plainView = record { refusal = none; issues = none; hands = [] }
+
+abbrev pub viewOf : Reply → View
+viewOf (Reply.Piece t o n b) = record { refusal = none; issues = some t; hands = [] }
+viewOf (Reply.No f) = record { refusal = some f; issues = none; hands = [] }
+viewOf (Reply.Rejected g o e b) = plainView
+viewOf (Reply.Done t) = plainView
+viewOf (Reply.Flush t n) = plainView
+viewOf (Reply.Took c) = record { refusal = none; issues = none; hands = c ∷ [] }
+viewOf Reply.None = plainView
+viewOf Reply.Ok = plainView
+viewOf (Reply.Writes w) = plainView
+viewOf (Reply.Mark m) = plainView
+
 -- a reply that turns a call away
 unfoldable pub isAway : Reply → Bool
-isAway (piece t o n b) = false
-isAway (turnedAway f) = true
-isAway (Rejected g o e b) = false
-isAway (Done t) = false
-isAway (flushAsked t n) = false
-isAway (Took c) = false
-isAway noneReady = false
-isAway Ok = false
-isAway (Writes w) = false
-isAway (Mark m) = false
+isAway r = isSome (viewOf r .refusal)
 
 -- "for a read, the bytes of the piece under way": how many bytes at the front of its buffer the host may change while an operation waits
 unfoldable pub loose : Plan → Awaits → ℕ
-loose g Nothing = 0
-loose g (Piece (Page a b) s) = 0
-loose g (Piece (Read a b) s) = pieceLength g (Read a b) s
-loose g (Flush t) = 0
+loose g Awaits.Nothing = 0
+loose g (Awaits.Piece (Kind.Page a b) s) = 0
+loose g (Awaits.Piece (Kind.Read a b) s) = pieceLength g (Kind.Read a b) s
+loose g (Awaits.Flush t) = 0
 
 -- the region of a row as the opening was given it
 unfoldable pub planAt : State → Row → Plan
@@ -120,22 +159,14 @@ added s (e ∷ es) = addedBy s e ++ added (next s e) es
 
 -- what the takings of a list give
 unfoldable pub tookBy : Reply → List Completion
-tookBy (piece t o n b) = []
-tookBy (turnedAway f) = []
-tookBy (Rejected g o e b) = []
-tookBy (Done t) = []
-tookBy (flushAsked t n) = []
-tookBy (Took c) = c ∷ []
-tookBy noneReady = []
-tookBy Ok = []
-tookBy (Writes w) = []
-tookBy (Mark m) = []
+tookBy r = viewOf r .hands
 
 unfoldable pub takings : State → List Event → List Completion
 takings s [] = []
 takings s (e ∷ es) = tookBy (replyTo s e) ++ takings (next s e) es
 
--- ---- the card: "nothing changes the card but a write's piece answered whole, by an answer not turned away: its bytes in the buffer go to its offset"
+-- ---- the card: "nothing changes the card but a write's piece answered whole, by an answer not turned away: its bytes in the buffer go to its
+-- offset"
 
 -- an answer that takes a piece of n bytes whole
 unfoldable pub takesWhole : ℕ → Option Input → Bool
@@ -144,24 +175,12 @@ takesWhole n (some (answered a back flushes)) = isWhole n a
 takesWhole n (some (flushed result)) = false
 
 unfoldable pub wroteBy : Plan → Awaits → List ℕ → Option Input → Card → Card
-wroteBy g Nothing bytes i card = card
-wroteBy g (Piece (Page a b) s) bytes i card =
-    pick (takesWhole (pieceLength g (Page a b) s) i) (pwrite card (place (g .map) (a .0 + s .done)) (take (pieceLength g (Page a b) s) bytes)) card
-wroteBy g (Piece (Read a b) s) bytes i card = card
-wroteBy g (Flush t) bytes i card = card
-
--- the queue tag of an answer or a flush result
-unfoldable pub tagIn : Made → ℕ
-tagIn (calls (Write q)) = 0
-tagIn (calls (ReadPage q)) = 0
-tagIn (calls (answer t a back flushes)) = t
-tagIn (calls (flushResult t result)) = t
-tagIn (calls Take) = 0
-tagIn (calls (SetGate h x)) = 0
-tagIn (calls (SetReadOnly h x)) = 0
-tagIn (calls (SetForced h x)) = 0
-tagIn (calls (ReportPoison c)) = 0
-tagIn (looks x) = 0
+wroteBy g Awaits.Nothing bytes i card = card
+wroteBy g (Awaits.Piece (Kind.Page a b) s) bytes i card =
+    pick (takesWhole (pieceLength g (Kind.Page a b) s) i)
+    (pwrite card (place (g .map) (byteAt (a .0) (s .done))) (take (pieceLength g (Kind.Page a b) s) bytes)) card
+wroteBy g (Awaits.Piece (Kind.Read a b) s) bytes i card = card
+wroteBy g (Awaits.Flush t) bytes i card = card
 
 -- the card after an event
 unfoldable pub cardBy : State → Event → Card → Card

@@ -1,7 +1,7 @@
--- Demand 3's claim of one small table and two orders, found by running `step` and not by the theorem: each clause stands here by itself, so that a step that a
--- clause rules out is refused at the clause. The opening is document 01's figures', with two buffers of 1,024. Row 0 writes 512 to 1,536 from buffer 0, in two pieces; row 1 reads 512 bytes at 0
--- into buffer 1, of which 100 come. In the first order the write is done and taken before the read is answered; in the second the read's completion is ready all
--- the while. Proved in proofs/Orders.antt (orders).
+-- Demand 3's claim of one small table and two orders, found by running `step` and not by the theorem: each clause stands here by itself, so that a
+-- step that a clause rules out is refused at the clause. The opening is document 01's figures', with two buffers of 1,024. Row 0 writes 512 to 1,536
+-- from buffer 0, in two pieces; row 1 reads 512 bytes at 0 into buffer 1, of which 100 come. In the first order the write is done and taken before
+-- the read is answered; in the second the read's completion is ready all the while. Proved in proofs/Orders.antt (orders).
 use mathlib.Core.Path.{_≡_}
 use mathlib.Core.Bool.{true, false}
 use mathlib.Core.List.{List, [], _∷_, _++_}
@@ -13,16 +13,30 @@ use Rattle.model.specs.declared.Opening.{Opening}
 use Rattle.model.specs.declared.Lengths.{Lengths}
 use Rattle.model.specs.declared.Request.{Request}
 use Rattle.model.specs.declared.Call.{Call}
-use Rattle.model.specs.declared.Call.the-variants.{Write, ReadPage, Take}
+use Rattle.model.specs.declared.Call.the-variants as Call
 use Rattle.model.specs.State.{State}
-use Rattle.model.specs.Memory.{opens}
-use Rattle.step.specs.Laws.{Made.calls, Event, next}
-use Rattle.step.specs.Demand3.{Start, openedBy, after, Agreed}
+use Rattle.model.specs.Opening.{opens}
+use Rattle.step.specs.Run.{Made.calls, Event, next, Start, openedBy, after}
+use Rattle.step.specs.Demand3.{Agreed}
 use Rattle.step.specs.Figures.{figuresPlan, asking, answers}
 
 unfoldable pub opening : Opening
 opening =
-    record { block = 512; depth = 2; lifetime = 1000; card = 16384; buffers = 2; capacity = 1024; «read_only» = false; flush = false; volume = 1; class = 0; label = 0; epoch = 0; regions = 1 }
+    record {
+      block = 512;
+      depth = 2;
+      lifetime = 1000;
+      card = 16384;
+      buffers = 2;
+      capacity = 1024;
+      «read_only» = false;
+      flush = false;
+      volume = 1;
+      class = 0;
+      label = 0;
+      epoch = 0;
+      regions = 1;
+    }
 
 unfoldable pub lengths : Lengths
 lengths = record { rows = 2; store = 118; free = 2; ready = 33; owners = 2; pool = 2048 }
@@ -45,13 +59,13 @@ module _ (admitted : opens opening figuresPlan lengths ≡ true) (whole : length
   start = record { opening = opening; plan = figuresPlan; lengths = lengths; pool = filled; admitted = admitted; whole = whole }
 
   abbrev pub history : List Event
-  history = inTurn (openedBy start) (Write (asking 512 1024) ∷ ReadPage reading ∷ [])
+  history = inTurn (openedBy start) (Call.Write (asking 512 1024) ∷ Call.ReadPage reading ∷ [])
 
   abbrev pub order₁ : List Event
-  order₁ = inTurn (after start history) (answers 0 512 ∷ answers 0 512 ∷ Take ∷ answers 1 100 ∷ Take ∷ [])
+  order₁ = inTurn (after start history) (answers 0 512 ∷ answers 0 512 ∷ Call.Take ∷ answers 1 100 ∷ Call.Take ∷ [])
 
   abbrev pub order₂ : List Event
-  order₂ = inTurn (after start history) (answers 1 100 ∷ answers 0 512 ∷ answers 0 512 ∷ Take ∷ Take ∷ [])
+  order₂ = inTurn (after start history) (answers 1 100 ∷ answers 0 512 ∷ answers 0 512 ∷ Call.Take ∷ Call.Take ∷ [])
 
 pub record Orders : Type 0 where
   pub admitted : opens opening figuresPlan lengths ≡ true

@@ -8,24 +8,21 @@ use Rattle.layout.specs.Pick.{pick}
 use Rattle.regionmap.specs.Map.{place}
 use Rattle.regionmap.specs.Laws.{Lawful}
 use Rattle.completion.specs.declared.Buffer.{Buffer}
-use Rattle.completion.specs.declared.Buffer.the-variants.{Back, Lost}
+use Rattle.completion.specs.declared.Buffer.the-variants as Buffer
 use Rattle.completion.specs.declared.Completion.{Completion}
 use Rattle.model.specs.declared.Opening.{Opening}
-use Rattle.model.specs.declared.Kind.the-variants.{Page, Read}
+use Rattle.model.specs.declared.Kind.the-variants as Kind
 use Rattle.model.specs.declared.Awaits.{Awaits}
-use Rattle.model.specs.declared.Awaits.the-variants.{Nothing, Piece, Flush}
+use Rattle.model.specs.declared.Awaits.the-variants as Awaits
 use Rattle.model.specs.declared.Row.{Row}
 use Rattle.model.specs.State.{Region, Owner, Owner.host, Owner.table, Owner.lost, State, awaiting, liveRows}
 use Rattle.model.specs.Meaning.{Numbers, Room}
 use Rattle.step.specs.Questions.{regionAt}
+use Rattle.step.specs.Rules.{rangeStart, rangeEnd}
 use Rattle.step.specs.Step.{rowAt}
+use Rattle.step.specs.Lists.{times}
 
 -- ---- counts
-
--- how often a number stands in a list
-unfoldable pub times : ℕ → List ℕ → ℕ
-times x [] = 0
-times x (y ∷ ys) = pick (eqb x y) 1 0 + times x ys
 
 -- how many live rows hold the buffer b
 unfoldable pub rowHolds : ℕ → Row → ℕ
@@ -37,8 +34,8 @@ rowsHold b (r ∷ rs) = rowHolds b r + rowsHold b rs
 
 -- how many completions hold it
 unfoldable pub holds : ℕ → Buffer → ℕ
-holds b (Back k n) = pick (eqb k b) 1 0
-holds b Lost = 0
+holds b (Buffer.Back k n) = pick (eqb k b) 1 0
+holds b Buffer.Lost = 0
 
 unfoldable pub readyHold : ℕ → List Completion → ℕ
 readyHold b [] = 0
@@ -52,31 +49,18 @@ tableHas lost = 0
 
 -- ---- the operation in a row
 
--- its range, by what it awaits: of a piece the kind's, of a flush the ticket's
-unfoldable pub rangeStart : Awaits → ℕ
-rangeStart Nothing = 0
-rangeStart (Piece (Page a b) s) = a .0
-rangeStart (Piece (Read a b) s) = a .0
-rangeStart (Flush t) = t .start .0
-
-unfoldable pub rangeEnd : Awaits → ℕ
-rangeEnd Nothing = 0
-rangeEnd (Piece (Page a b) s) = b .0
-rangeEnd (Piece (Read a b) s) = b .0
-rangeEnd (Flush t) = t .end .0
-
 -- a piece under way: the range's length is the total, and bytes are left
 unfoldable pub SplitFits : Awaits → Type 0
-SplitFits Nothing = Unit {0}
-SplitFits (Piece (Page a b) s) = (a .0 + s .total ≡ b .0) × (s .done < s .total)
-SplitFits (Piece (Read a b) s) = (a .0 + s .total ≡ b .0) × (s .done < s .total)
-SplitFits (Flush t) = Unit {0}
+SplitFits Awaits.Nothing = Unit {0}
+SplitFits (Awaits.Piece (Kind.Page a b) s) = (a .0 + s .total ≡ b .0) × (s .done < s .total)
+SplitFits (Awaits.Piece (Kind.Read a b) s) = (a .0 + s .total ≡ b .0) × (s .done < s .total)
+SplitFits (Awaits.Flush t) = Unit {0}
 
 -- the ticket of a flush is its region's
 unfoldable pub TicketFits : Opening → Region → Awaits → Type 0
-TicketFits o g Nothing = Unit {0}
-TicketFits o g (Piece k s) = Unit {0}
-TicketFits o g (Flush t) = (t .volume ≡ o .volume) × (t .region ≡ g .id) × (t .generation ≡ g .generation) × (t .epoch ≡ o .epoch)
+TicketFits o g Awaits.Nothing = Unit {0}
+TicketFits o g (Awaits.Piece k s) = Unit {0}
+TicketFits o g (Awaits.Flush t) = (t .volume ≡ o .volume) × (t .region ≡ g .id) × (t .generation ≡ g .generation) × (t .epoch ≡ o .epoch)
 
 -- a live row's range lies in its region's data and fits its buffer, which is in the pool
 pub record InTable (s : State) (r : Row) : Type 0 where
@@ -122,7 +106,8 @@ pub record Sound (s : State) : Type 0 where
   pub most : s .counts .live + s .counts .ready ≤ s .settings .depth
   -- generations have 32 bits
   pub generations : (r : ℕ) → r < s .settings .depth → rowAt s r .generation < 2 ^ 32
-  -- no two live rows or completions hold one buffer, and none holds one that the host holds: of a buffer that the table has there is one holder, of another none
+  -- no two live rows or completions hold one buffer, and none holds one that the host holds: of a buffer that the table has there is one holder, of
+  -- another none
   pub owners : length (s .owners) ≡ s .settings .buffers
   pub holders : (b : ℕ) → rowsHold b (s .rows) + readyHold b (s .ready) ≡ tableHas (getD (s .owners) b lost)
   -- each live row's operation

@@ -27,10 +27,10 @@ use Rattle.step.specs.Rules.{pieceOf}
 use Rattle.step.specs.Step.{begun, endOf, topOf, verdictOf}
 use Rattle.step.specs.Sound.{Sound}
 use Rattle.step.proofs.Answers.{Passed}
-use Rattle.asking.specs.Asks.{Reads, Questions}
-use Rattle.firstpiece.proofs.Found.{store-long, in-store, region-is, piece-there}
+use Rattle.submission.specs.Asks.{Reads, Questions}
+use Rattle.submission.proofs.Found.{store-long, in-store, region-is, piece-there}
 use Rattle.submission.specs.Decided.{FirstPiece, DecidedBy, Decides, verdictWith, endWrapped}
-use Rattle.called.specs.Called.{lentOf}
+use Rattle.optable.specs.Called.{lentOf}
 
 module _ (c : Counts) (rows : List Row) (store free ready owners pool : List ℕ) (i : Sound (stateIn c (lentOf rows store free ready owners pool)))
     (same : sameLengths (lengthsOf (lentOf rows store free ready owners pool)) store ≡ true) where

@@ -18,8 +18,8 @@ use Rattle.model.specs.declared.Verdict.the-variants.{No as refuses, Accept}
 use Rattle.model.specs.State.{State}
 use Rattle.model.specs.Memory.{Lent, lengthsOf, sameLengths, stateIn}
 use Rattle.step.specs.Sound.{Sound}
-use Rattle.firstpiece.specs.Piece.{PieceIn}
-use Rattle.called.specs.Called.{lentOf}
+use Rattle.submission.specs.Piece.{PieceIn}
+use Rattle.optable.specs.Called.{lentOf}
 
 -- the map's piece for a request, of the region at its handle
 abbrev pub FirstPiece : List ℕ → Request → FoundPiece → Type 0
@@ -42,5 +42,6 @@ pub record DecidedBy (asked : Asked) (live : ℕ) (store free : List ℕ) (k : K
 -- of every sound table whose parts lie in these words, once the lengths are found to be the opening's: what the definition says
 abbrev pub Decides : (State → Request → Verdict) → Counts → List ℕ → List ℕ → List ℕ → Request → Verdict → Type 0
 Decides verdict c store free owners q v =
-    (rows : List Row) (ready pool : List ℕ) → sameLengths (lengthsOf (lentOf rows store free ready owners pool)) store ≡ true → Sound (stateIn c (lentOf rows store free ready owners pool))
+    (rows : List Row) (ready pool : List ℕ) → sameLengths (lengthsOf (lentOf rows store free ready owners pool)) store ≡ true
+    → Sound (stateIn c (lentOf rows store free ready owners pool))
     → v ≡ verdict (stateIn c (lentOf rows store free ready owners pool)) q

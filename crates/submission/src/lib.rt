@@ -1,5 +1,15 @@
 // Whether a submission is accepted, and as what (store-io's submitter/mod.rs: write, read_page and read): the questions, and of an
 // accepted one the row on top of the free stack and the first piece.
+//
+// admit       questions 2 to 6
+// firstpiece  a piece, found by its region's map
+// issue       what a verdict leaves
+// questions   the questions in their order
+pub mod admit;
+pub mod firstpiece;
+pub mod issue;
+pub mod questions;
+
 ghost use mathlib.Core.Path.{_≡_};
 ghost use Rattle.step.specs.Step.{writeVerdict, readVerdict};
 ghost use Rattle.submission.specs.Decided.{DecidedBy, Decides, endWrapped};
@@ -28,7 +38,7 @@ fn decide(asked: Asked, live: u64, store: &[u64], free: &[u64], kind: Kind, q: R
             Verdict::Accept {
                 row: optable::top(free, live),
                 kind,
-                piece: firstpiece::first_piece(store, q.handle, start, q.length),
+                piece: crate::firstpiece::first_piece(store, q.handle, start, q.length),
             }
         }
     }
@@ -38,7 +48,7 @@ fn decide(asked: Asked, live: u64, store: &[u64], free: &[u64], kind: Kind, q: R
 pub fn write(counts: Counts, store: &[u64], free: &[u64], owners: &[u64], q: Request) -> Verdict
     ensures { λ r. ⌜ Decides writeVerdict counts (now (store .entry)) (now (free .entry)) (now (owners .entry)) q r ⌝ }
 {
-    let asked = asking::ask_write(counts, store, owners, q);
+    let asked = crate::questions::ask_write(counts, store, owners, q);
     let start = q.offset;
     let kind = Kind::Page {
         start,
@@ -51,7 +61,7 @@ pub fn write(counts: Counts, store: &[u64], free: &[u64], owners: &[u64], q: Req
 pub fn read_page(counts: Counts, store: &[u64], free: &[u64], owners: &[u64], q: Request) -> Verdict
     ensures { λ r. ⌜ Decides readVerdict counts (now (store .entry)) (now (free .entry)) (now (owners .entry)) q r ⌝ }
 {
-    let asked = asking::ask_read(counts, store, owners, q);
+    let asked = crate::questions::ask_read(counts, store, owners, q);
     let start = q.offset;
     let kind = Kind::Read {
         start,

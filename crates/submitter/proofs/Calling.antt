@@ -11,10 +11,10 @@ use Rattle.model.specs.declared.Counts.{Counts}
 use Rattle.model.specs.declared.Row.{Row}
 use Rattle.model.specs.State.{freed}
 use Rattle.optable.specs.Counted.{acceptedIf, releasedBy}
-use Rattle.rows.specs.Claimed.{claimedIn, releasedIn}
-use Rattle.rows.proofs.Storing.{claimed-released}
-use Rattle.called.specs.declared.Touched.{Touched}
-use Rattle.called.specs.Called.{lentOf, placeOf, CallsTo, TouchesTo}
+use Rattle.optable.specs.Claimed.{claimedIn, releasedIn}
+use Rattle.optable.proofs.Storing.{claimed-released}
+use Rattle.optable.specs.declared.touched.Touched.{Touched}
+use Rattle.optable.specs.Called.{lentOf, placeOf, CallsTo, TouchesTo}
 use Rattle.submitter.proofs.Slices.{Words}
 
 -- what `touch` gives back, and leaves in the five slices

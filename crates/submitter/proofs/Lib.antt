@@ -1,4 +1,4 @@
--- What the proofs of the host's calls share.
+-- What the proofs of the opening, of a call and of a lookup share, and then what those of host share.
 pub mod Again
 pub mod Calling
 pub mod Looking
@@ -6,3 +6,4 @@ pub mod Opening
 pub mod Passing
 pub mod Slices
 pub mod Values
+pub mod Lending

@@ -1,6 +1,6 @@
 -- From what the parts of `lookup` ensure to what it ensures: the reply is the step's, since of a sound table the two tests of the lengths agree, the live
 -- rows are those counted, and no mark exceeds 64 bits.
-use mathlib.Core.Path.{_≡_, refl, sym, ap, _∙_}
+use mathlib.Core.Path.{_≡_, refl, sym, ap, _∙_, subst}
 use mathlib.Core.Bool.{Bool, true, false}
 use mathlib.Core.Logic.{_⊎_, inl, inr}
 use mathlib.Core.List.{List, [], _∷_}
@@ -26,10 +26,10 @@ use Rattle.model.specs.Memory.{Lent, lengthsOf, sameLengths, settingsIn, stateI
 use Rattle.step.specs.Step.{isLive, oldest, markOf, lookedUp, look}
 use Rattle.step.specs.Sound.{Sound}
 use Rattle.step.proofs.Memory.{lengths-same}
-use Rattle.store.specs.Prepared.{lengthsWith}
-use Rattle.called.specs.Called.{lentOf, LooksTo}
-use Rattle.lookup.specs.declared.Looked.{Looked}
-use Rattle.lookup.specs.Looked.{lookedIn, markWrapped, repliesAs}
+use Rattle.opening.specs.Prepared.{lengthsWith}
+use Rattle.optable.specs.Called.{lentOf, LooksTo}
+use Rattle.optable.specs.declared.lookup.Looked.{Looked}
+use Rattle.optable.specs.Looked.{lookedIn, markWrapped, repliesAs}
 use Rattle.submitter.specs.declared.Fit.{Fit}
 use Rattle.submitter.specs.Look.{fitOf, answerOf}
 
@@ -98,3 +98,12 @@ module _ (x : Lookup) (c : Counts) (rows : List Row) (store free ready owners po
       by-lengths : Sound s → (sameLengths (lengthsOf lent) store ≡ true) ⊎ (sameLengths (lengthsOf lent) store ≡ false) → replied ≡ look s (lengthsOf lent) x
       by-lengths i (inl e) = ap by-test e ∙ as-looked x i ∙ sym (ap (λ (t : Bool). pick t (lookedUp s x) (turnedAway Unfit)) (sym (lengths-same c lent i) ∙ e))
       by-lengths i (inr e) = ap by-test e ∙ sym (ap (λ (t : Bool). pick t (lookedUp s x) (turnedAway Unfit)) (sym (lengths-same c lent i) ∙ e))
+
+  -- the same of values that are what the parts say, of n rows
+  pub looks-as : (n : ℕ) → length rows ≡ n → (f : Fit) (l : Looked) (r : Reply) → f ≡ fitOf (lengthsWith n store free ready owners (length pool)) store
+      → l ≡ lookedIn (c .submissions) (take (f .depth) rows) → r ≡ answerOf (f .fits) x c l → LooksTo x c lent r
+  looks-as n long f l r fitted found answered =
+      let fits : f ≡ fit = fitted ∙ ap (λ (k : ℕ). fitOf (lengthsWith k store free ready owners (length pool)) store) (sym long) in
+      subst (LooksTo x c lent)
+      (sym (answered ∙ ap (answerOf (f .fits) x c) found ∙ ap (λ (g : Fit). answerOf (g .fits) x c (lookedIn (c .submissions) (take (g .depth) rows))) fits))
+      looks-to

@@ -16,14 +16,15 @@ use Rattle.completion.specs.Numbers.{number}
 use Rattle.model.specs.declared.Opening.{Opening}
 use Rattle.model.specs.declared.Lengths.{Lengths}
 use Rattle.model.specs.declared.Row.{Row}
-use Rattle.model.specs.Memory.{Lent, lengthsOf, opens, rowsOpened, openedLent, lentAfter}
+use Rattle.model.specs.Memory.{Lent, lengthsOf, rowsOpened, openedLent, lentAfter}
+use Rattle.model.specs.Opening.{opens}
 use Rattle.model.proofs.Rules.{numbers-hold, room-holds}
-use Rattle.store.specs.Prepared.{lengthsWith, Prepared}
+use Rattle.opening.specs.Prepared.{lengthsWith, Prepared}
 use Rattle.optable.proofs.Opened.{none-opened}
 use Rattle.submitter.specs.declared.Opened.{Opened}
 use Rattle.submitter.specs.declared.Opened.the-variants.{Table}
 use Rattle.model.specs.Laws.{fresh}
-use Rattle.called.specs.Called.{lentOf}
+use Rattle.optable.specs.Called.{lentOf}
 use Rattle.submitter.specs.Open.{refused, openedWith, openedNumber, OpensTo}
 
 -- a part of what is picked is picked of the parts

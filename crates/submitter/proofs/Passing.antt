@@ -36,12 +36,12 @@ use Rattle.optable.proofs.Element as Element
 use Rattle.optable.proofs.Tally.{N}
 use Rattle.optable.proofs.Tally as Tally
 use Rattle.optable.specs.declared.Frees.{Frees}
-use Rattle.counts.proofs.Counted.{Plain, frees, ended, counts-become, Becomes}
-use Rattle.rows.proofs.find as find
-use Rattle.rows.proofs.Storing.{rows-become, ended as rows-ended, Becomes as RowsBecome}
-use Rattle.called.specs.declared.Touched.{Touched}
-use Rattle.called.specs.Called.{placeOf}
-use Rattle.called.proofs.place as place
+use Rattle.optable.proofs.Counted.{Plain, frees, ended, counts-become, Becomes}
+use Rattle.optable.proofs.rows.find as find
+use Rattle.optable.proofs.Storing.{rows-become, ended as rows-ended, Becomes as RowsBecome}
+use Rattle.optable.specs.declared.touched.Touched.{Touched}
+use Rattle.optable.specs.Called.{placeOf}
+use Rattle.optable.proofs.touched.place as place
 use Rattle.queuecore.proofs.touch as touch
 use Rattle.submitter.proofs.Again.{pointer}
 use Rattle.submitter.proofs.Calling.{Left, row, Touches, Did}

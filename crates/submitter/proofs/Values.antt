@@ -30,12 +30,12 @@ use Rattle.model.proofs.Lookup.Laws as AskingLaws
 use Rattle.completion.specs.declared.Reply.{Reply}
 use Rattle.completion.proofs.Reply as Answered
 use Rattle.completion.proofs.Reply.Laws as AnsweredLaws
-use Rattle.called.specs.declared.Touched.{Touched}
-use Rattle.called.proofs.Touched as Decided
-use Rattle.called.proofs.Touched.Laws as DecidedLaws
+use Rattle.optable.specs.declared.touched.Touched.{Touched}
+use Rattle.optable.proofs.touched.Touched as Decided
+use Rattle.optable.proofs.touched.Touched.Laws as DecidedLaws
 use Rattle.optable.proofs.Element.{R}
 use Rattle.optable.proofs.Element as Element
-use Rattle.counts.proofs.Counted.{frees}
+use Rattle.optable.proofs.Counted.{frees}
 use Rattle.submitter.specs.declared.Fit.{Fit}
 use Rattle.submitter.proofs.Fit as Fitting
 use Rattle.submitter.proofs.Fit.Laws as FittingLaws

@@ -1,2 +1,3 @@
+-- What an opening leaves, and what a lookup finds; a call's promise is optable's Called.
 pub mod Look
 pub mod Open

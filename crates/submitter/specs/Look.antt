@@ -10,8 +10,8 @@ use Rattle.model.specs.declared.Counts.{Counts}
 use Rattle.model.specs.declared.Lengths.{Lengths}
 use Rattle.model.specs.declared.Lookup.{Lookup}
 use Rattle.model.specs.Memory.{sameLengths, settingsIn}
-use Rattle.lookup.specs.declared.Looked.{Looked}
-use Rattle.lookup.specs.Looked.{repliesAs}
+use Rattle.optable.specs.declared.lookup.Looked.{Looked}
+use Rattle.optable.specs.Looked.{repliesAs}
 use Rattle.submitter.specs.declared.Fit.{Fit}
 
 unfoldable pub fitOf : Lengths → List ℕ → Fit

@@ -9,7 +9,8 @@ use Rattle.completion.specs.declared.Refusal.the-variants.{Unfit}
 use Rattle.completion.specs.Numbers.{number}
 use Rattle.model.specs.declared.Opening.{Opening}
 use Rattle.model.specs.declared.Row.{Row}
-use Rattle.model.specs.Memory.{Lent, lengthsOf, opens, lentAfter}
+use Rattle.model.specs.Memory.{Lent, lengthsOf, lentAfter}
+use Rattle.model.specs.Opening.{opens}
 use Rattle.model.specs.Laws.{fresh}
 use Rattle.submitter.specs.declared.Opened.{Opened}
 use Rattle.submitter.specs.declared.Opened.the-variants.{Table, No}

@@ -1,20 +1,24 @@
-// The calls that a host makes (store-io's submitter/mod.rs): the opening, and every call and lookup after it. Rows and counts are lent; what a call decides is
-// decided in queuecore, on values and words.
+// The calls that a host makes (store-io's submitter/mod.rs): the opening, and every call and lookup after it. Rows and counts are lent; what a
+// call decides is decided in queuecore, on values and words.
+//
+// host  the same for a program in Rattle that holds rows and counts by value
+pub mod host;
+
 ghost use mathlib.Core.Path.{_≡_};
 ghost use lib.ListN.{length};
-ghost use Rattle.called.specs.Called.{lentOf, CallsTo, LooksTo};
-ghost use Rattle.store.specs.Prepared.{lengthsWith};
+ghost use Rattle.optable.specs.Called.{lentOf, CallsTo, LooksTo};
+ghost use Rattle.opening.specs.Prepared.{lengthsWith};
 ghost use Rattle.submitter.specs.Open.{openedWith, OpensTo};
 ghost use Rattle.submitter.specs.Look.{fitOf, answerOf};
 use completion::Refusal;
 use completion::Reply;
-use lookup::Looked;
 use model::Call;
 use model::Counts;
 use model::Lengths;
 use model::Lookup;
 use model::Opening;
 use model::Row;
+use optable::lookup::Looked;
 
 // The reply to an opening: the table's counts, or 13.
 pub enum Opened {
@@ -49,15 +53,26 @@ pub fn open(
     owners: &mut [u64],
     pool: &[u8],
 ) -> Opened
-    ensures { λ r. ⌜ OpensTo o (now (plan .entry)) (lentOf (now (rows .entry)) (now (store .entry)) (now (free .entry)) (now (ready .entry)) (now (owners .entry)) (now (pool .entry))) r (now (rows .exit)) (now (store .exit)) (now (free .exit)) (now (ready .exit)) (now (owners .exit)) ⌝ }
+    ensures { λ r. ⌜ OpensTo o (now (plan .entry))
+        (lentOf (now (rows .entry)) (now (store .entry)) (now (free .entry)) (now (ready .entry)) (now (owners .entry)) (now (pool .entry)))
+        r (now (rows .exit)) (now (store .exit)) (now (free .exit)) (now (ready .exit)) (now (owners .exit)) ⌝ }
 {
-    let depth = store::prepare(o, plan, rows.len(), store, free, ready, owners, pool.len());
-    rows::new(rows, depth);
+    let depth = opening::store::prepare(
+        o,
+        plan,
+        rows.len(),
+        store,
+        free,
+        ready,
+        owners,
+        pool.len(),
+    );
+    optable::rows::new(rows, depth);
     reply(depth)
 }
 
-// One call (Submitter::write, read_page, and the calls of queue_core.rs): the row that it touches is found, what the call does to it is decided, and it is
-// claimed, or released, with the counts, as decided; a call that is turned away claims the row as it was.
+// One call (Submitter::write, read_page, and the calls of queue_core.rs): the row that it touches is found, what the call does to it is decided,
+// and it is claimed, or released, with the counts, as decided; a call that is turned away claims the row as it was.
 pub fn call(
     call: Call,
     counts: &mut Counts,
@@ -68,16 +83,19 @@ pub fn call(
     owners: &mut [u64],
     pool: &mut [u8],
 ) -> Reply
-    ensures { λ r. ⌜ CallsTo call (now (counts .entry)) (lentOf (now (rows .entry)) (now (store .entry)) (now (free .entry)) (now (ready .entry)) (now (owners .entry)) (now (pool .entry))) r (now (counts .exit)) (lentOf (now (rows .exit)) (now (store .exit)) (now (free .exit)) (now (ready .exit)) (now (owners .exit)) (now (pool .exit))) ⌝ }
+    ensures { λ r. ⌜ CallsTo call (now (counts .entry))
+        (lentOf (now (rows .entry)) (now (store .entry)) (now (free .entry)) (now (ready .entry)) (now (owners .entry)) (now (pool .entry)))
+        r (now (counts .exit))
+        (lentOf (now (rows .exit)) (now (store .exit)) (now (free .exit)) (now (ready .exit)) (now (owners .exit)) (now (pool .exit))) ⌝ }
 {
     let c = *counts;
-    let at = called::place(call, c, free) as usize;
-    let row = rows::find(rows, at);
+    let at = optable::touched::place(call, c, free) as usize;
+    let row = optable::rows::find(rows, at);
     let t = queuecore::touch(call, row, c, rows.len(), store, free, ready, owners, pool);
-    rows::claim(rows, at, t.row, t.frees);
-    rows::release(rows, at, t.row, t.frees);
-    counts::accept(counts, t.accepts);
-    counts::release(counts, t.frees);
+    optable::rows::claim(rows, at, t.row, t.frees);
+    optable::rows::release(rows, at, t.row, t.frees);
+    optable::counts::accept(counts, t.accepts);
+    optable::counts::release(counts, t.frees);
     t.reply
 }
 
@@ -87,6 +105,7 @@ pub struct Fit {
     pub depth: usize,
 }
 
+// What is lent, as a lookup finds it.
 pub fn fitted(
     rows: usize,
     store: &[u64],
@@ -95,7 +114,9 @@ pub fn fitted(
     owners: &[u64],
     pool: &[u8],
 ) -> Fit
-    ensures { λ r. ⌜ r ≡ fitOf (lengthsWith rows (now (store .entry)) (now (free .entry)) (now (ready .entry)) (now (owners .entry)) (length (now (pool .entry)))) (now (store .entry)) ⌝ }
+    ensures { λ r. ⌜ r ≡ fitOf
+        (lengthsWith rows (now (store .entry)) (now (free .entry)) (now (ready .entry)) (now (owners .entry)) (length (now (pool .entry))))
+        (now (store .entry)) ⌝ }
 {
     let l = Lengths {
         rows: rows as u64,
@@ -105,8 +126,8 @@ pub fn fitted(
         owners: owners.len() as u64,
         pool: pool.len() as u64,
     };
-    if lengths::same_lengths(store, l) {
-        let o = settings::settings(store);
+    if memory::lengths::same_lengths(store, l) {
+        let o = memory::settings::settings(store);
         Fit {
             fits: true,
             depth: o.depth as usize,
@@ -124,7 +145,7 @@ pub fn answer(x: Lookup, counts: Counts, fits: bool, l: Looked) -> Reply
     ensures { λ r. ⌜ r ≡ answerOf fits x counts l ⌝ }
 {
     if fits {
-        lookup::reply(x, counts, l)
+        optable::lookup::reply(x, counts, l)
     } else {
         Reply::No(Refusal::Unfit)
     }
@@ -141,9 +162,10 @@ pub fn lookup(
     owners: &[u64],
     pool: &[u8],
 ) -> Reply
-    ensures { λ r. ⌜ LooksTo x counts (lentOf (now (rows .entry)) (now (store .entry)) (now (free .entry)) (now (ready .entry)) (now (owners .entry)) (now (pool .entry))) r ⌝ }
+    ensures { λ r. ⌜ LooksTo x counts
+        (lentOf (now (rows .entry)) (now (store .entry)) (now (free .entry)) (now (ready .entry)) (now (owners .entry)) (now (pool .entry))) r ⌝ }
 {
     let f = fitted(rows.len(), store, free, ready, owners, pool);
-    let l = lookup::look(rows, f.depth, counts.submissions);
+    let l = optable::lookup::look(rows, f.depth, counts.submissions);
     answer(x, counts, f.fits, l)
 }

@@ -9,21 +9,22 @@ use lib.Seq.{take-append-seam}
 use Rattle.layout.specs.Pick.{pick}
 use Rattle.model.specs.declared.Opening.{Opening}
 use Rattle.model.specs.Laws.{fresh}
-use Rattle.model.specs.Memory.{Lent, lengthsOf, opens, openedLent, lentAfter}
-use Rattle.called.specs.Called.{lentOf}
-use Rattle.mayfill.specs.MayFill.{Open}
-use Rattle.openlines.specs.declared.OpenLine.{OpenLine}
-use Rattle.openlines.specs.declared.OpenLine.the-variants.{Comment, Open as opens-with, Region, Start, Bad}
-use Rattle.openlines.specs.Openings.{openLineRead}
-use Rattle.lineforms.specs.Said.{saidRead}
-use Rattle.starting.specs.declared.Started.{Started}
-use Rattle.starting.specs.declared.Started.the-variants.{Table as opened, Refused as broken, TooLarge}
-use Rattle.starting.specs.Start.{keeps, lentFor, opensIn, startedAs}
-use Rattle.unopened.specs.declared.Stage.{Stage}
-use Rattle.unopened.specs.declared.Stage.the-variants.{Before, Planned, Table, Refused, Over}
-use Rattle.unopened.specs.Unopened.{Stood, beforeLine, withRegion, lentOpened, startLine, plannedLine}
-use Rattle.opened.specs.Opened.{partOf, joined}
-use Rattle.replaying.specs.Lines.{LineAt}
+use Rattle.model.specs.Memory.{Lent, lengthsOf, openedLent, lentAfter}
+use Rattle.model.specs.Opening.{opens}
+use Rattle.optable.specs.Called.{lentOf}
+use Rattle.hostfill.specs.MayFill.{Open}
+use Rattle.parser.specs.declared.opening.OpenLine.{OpenLine}
+use Rattle.parser.specs.declared.opening.OpenLine.the-variants.{Comment, Open as opens-with, Region, Start, Bad}
+use Rattle.parser.specs.Openings.{openLineRead}
+use Rattle.parser.specs.Said.{saidRead}
+use Rattle.session.specs.declared.start.Started.{Started}
+use Rattle.session.specs.declared.start.Started.the-variants.{Table as opened, Refused as broken, TooLarge}
+use Rattle.session.specs.Start.{keeps, lentFor, opensIn, startedAs}
+use Rattle.session.specs.declared.Stage.{Stage}
+use Rattle.session.specs.declared.Stage.the-variants.{Before, Planned, Table, Refused, Over}
+use Rattle.session.specs.Unopened.{Stood, beforeLine, withRegion, lentOpened, startLine, plannedLine}
+use Rattle.session.specs.Opened.{partOf, joined}
+use Rattle.session.specs.Lines.{LineAt}
 use Rattle.tracelaws.specs.Laws.{StandsAt, Stands, TraceLaws}
 use Rattle.tracelaws.proofs.Tables.{answers-kept}
 use Rattle.tracelaws.proofs.Openings.{opened-open}

@@ -5,13 +5,14 @@ use Prim.Native.Nat.{ℕ, zero, suc, _+_, _<_}
 use native.Mathlib.Omega.{arith}
 use lib.ListN.{getD, take, drop}
 use lib.Seq.{getD-drop, getD-take}
-use Rattle.linecalls.specs.declared.Named.{Named}
+use Rattle.parser.specs.declared.requests.Named.{Named}
 use Rattle.model.specs.declared.Counts.{Counts}
 use Rattle.model.specs.State.{noRegion}
-use Rattle.model.specs.Memory.{Lent, planIn, settingsIn, regionIn, regionsIn, stateIn}
+use Rattle.model.specs.Memory.{Lent, settingsIn, regionIn, regionsIn, stateIn}
+use Rattle.model.specs.Opening.{planIn}
 use Rattle.step.specs.Questions.{regionAt}
-use Rattle.mayfill.specs.MayFill.{Open}
-use Rattle.asklines.specs.Asking.{namedIn}
+use Rattle.hostfill.specs.MayFill.{Open}
+use Rattle.session.specs.Asking.{namedIn}
 
 -- a word of region 0
 word : (store : List ℕ) (k : ℕ) → k < 70 → getD (take 70 (drop 48 store)) k 0 ≡ getD store (48 + k) 0

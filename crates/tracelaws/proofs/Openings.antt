@@ -8,12 +8,13 @@ use lib.ListN.{length, take, drop, replicate, length-append, length-take, length
 use Rattle.model.specs.declared.Opening.{Opening}
 use Rattle.model.specs.State.{freed, upFrom}
 use Rattle.model.specs.Laws.{fresh}
-use Rattle.model.specs.Memory.{Lent, lengthsOf, plansIn, opens, storeHead, over, rowsOpened, storeOpened, freeOpened, readyOpened, ownersOpened, openedLent}
+use Rattle.model.specs.Memory.{Lent, lengthsOf, storeHead, over, rowsOpened, storeOpened, freeOpened, readyOpened, ownersOpened, openedLent}
+use Rattle.model.specs.Opening.{plansIn, opens}
 use Rattle.model.proofs.Laws.{opening-laws, asked}
 use Rattle.model.proofs.Opened.{length-up}
 use Rattle.step.specs.Sound.{Sound}
 use Rattle.step.proofs.Laws.{step-laws}
-use Rattle.mayfill.specs.MayFill.{Open}
+use Rattle.hostfill.specs.MayFill.{Open}
 
 long-over : {A : Type 0} (xs ys : List A) → length xs ≤ length ys → length (over xs ys) ≡ length ys
 unfolding over

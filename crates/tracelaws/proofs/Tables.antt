@@ -17,21 +17,21 @@ use Rattle.model.specs.State.{State}
 use Rattle.model.specs.Memory.{Lent, lengthsOf, lengthsIn, sameLengths, settingsIn, stateIn}
 use Rattle.step.specs.Step.{step}
 use Rattle.step.specs.Sound.{Sound}
-use Rattle.step.specs.Laws.{Made.calls, leave, done}
+use Rattle.step.specs.Run.{Made.calls, leave, done}
 use Rattle.step.proofs.Histories.{done-stays}
 use Rattle.step.proofs.Laws.{step-laws}
-use Rattle.called.specs.Called.{lentOf, CallsTo}
-use Rattle.lineforms.specs.declared.Said.{Said}
-use Rattle.lineforms.specs.declared.Said.the-variants.{Comment, Call as callSaid, Own, Count, Look, Len, Fill, Sum, Rows, Bad}
-use Rattle.linecalls.specs.declared.Asks.{Asks}
-use Rattle.linecalls.specs.declared.Asks.the-variants.{Nothing, Call as asksCall, Other}
-use Rattle.linecalls.specs.Asks.{asksOf}
-use Rattle.hostwrites.specs.Writes.{fillBytes, filled, placeIn, inPool}
-use Rattle.mayfill.specs.MayFill.{mayFill, Open}
-use Rattle.hostlines.specs.Host.{FillsIn}
-use Rattle.hostlines.proofs.Places.{ends}
-use Rattle.asklines.specs.Asking.{Held, namedIn, Still, Ran, Asked}
-use Rattle.tablelines.specs.Table.{withPool, Fills, Answers}
+use Rattle.optable.specs.Called.{lentOf, CallsTo}
+use Rattle.parser.specs.declared.forms.Said.{Said}
+use Rattle.parser.specs.declared.forms.Said.the-variants.{Comment, Call as callSaid, Own, Count, Look, Len, Fill, Sum, Rows, Bad}
+use Rattle.parser.specs.declared.requests.Asks.{Asks}
+use Rattle.parser.specs.declared.requests.Asks.the-variants.{Nothing, Call as asksCall, Other}
+use Rattle.parser.specs.Asks.{asksOf}
+use Rattle.hostfill.specs.Writes.{fillBytes, filled, placeIn, inPool}
+use Rattle.hostfill.specs.MayFill.{mayFill, Open}
+use Rattle.session.specs.Host.{FillsIn}
+use Rattle.session.proofs.Places.{ends}
+use Rattle.session.specs.Asking.{Held, namedIn, Still, Ran, Asked}
+use Rattle.session.specs.Table.{withPool, Fills, Answers}
 
 abbrev OpenIn : Held → Type 0
 OpenIn h = Open (h .counts) (h .lent)

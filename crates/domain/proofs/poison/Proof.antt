@@ -6,12 +6,6 @@ use Rattle.domain.specs.Domain.{firstKept}
 use Rattle.domain.proofs.poison.Statement.{statement}
 use Rattle.domain.proofs.poison.Tie as tie
 
-enum-told : tie.Need-enum-told
-enum-told c = search needs
-
-enum-known-p : tie.Need-enum-known-p
-enum-known-p c = search needs
-
 returns : tie.Need-returns
 returns c = sym (ap (λ (p : Poisoned). firstKept p (c .before .before .args .cause)) (c .enum-told .given .1))
 
@@ -19,4 +13,4 @@ returns-2 : tie.Need-returns-2
 returns-2 c = sym (ap (λ (p : Poisoned). firstKept p (c .before .before .before .args .cause)) (c .before .p .given .1))
 
 pub poison-spec : {M : Type 1} → statement M
-poison-spec = tie.close (tie.spec enum-told enum-known-p returns returns-2)
+poison-spec = tie.close (tie.spec (λ c. search needs) (λ c. search needs) returns returns-2)

@@ -1,47 +1,14 @@
 -- `entry::table_answer` meets its contract, by whether the code names an answer.
 use mathlib.Core.Path.{_≡_, refl, ap}
 use mathlib.Core.Option.{none}
-use Rattle.asked.specs.declared.AnswerForm.the-variants.{Unknown}
-use Rattle.answers.specs.Arrived.{arrivedCall}
-use Rattle.asked.specs.Asked.{answerForm, answering}
+use Rattle.abi.specs.declared.codes.AnswerForm.the-variants.{Unknown}
+use Rattle.arrival.specs.Arrived.{arrivedCall}
+use Rattle.abi.specs.Asked.{answerForm, answering}
 use Rattle.entry.specs.Entry.{AnswersOut}
 use Rattle.entry.proofs.Forms.{by-form}
 use borrow.Author.Needs.{needs}
 use Rattle.entry.proofs.table_answer.Statement.{statement}
 use Rattle.entry.proofs.table_answer.Tie as tie
-
-answer-form-requires : tie.Need-answer-form-requires
-answer-form-requires c κs = search needs
-
-enum-known-named : tie.Need-enum-known-named
-enum-known-named c = search needs
-
-arrived-requires : tie.Need-arrived-requires
-arrived-requires c κs = search needs
-
-enum-told : tie.Need-enum-told
-enum-told c = search needs
-
-put-unknown-requires : tie.Need-put-unknown-requires
-put-unknown-requires c κs = search needs
-
-same-length : tie.Need-same-length
-same-length c = search needs
-
-same-length-2 : tie.Need-same-length-2
-same-length-2 c = search needs
-
-same-length-3 : tie.Need-same-length-3
-same-length-3 c = search needs
-
-same-length-4 : tie.Need-same-length-4
-same-length-4 c = search needs
-
-same-length-5 : tie.Need-same-length-5
-same-length-5 c = search needs
-
-same-length-6 : tie.Need-same-length-6
-same-length-6 c = search needs
 
 returns : tie.Need-returns
 unfolding AnswersOut arrivedCall answering
@@ -64,16 +31,16 @@ pub table-answer-spec : {M : Type 1} → statement M
 table-answer-spec =
     tie.close
     (tie.spec
-    answer-form-requires
-    enum-known-named
-    arrived-requires
-    enum-told
-    put-unknown-requires
-    same-length
-    same-length-2
-    same-length-3
-    same-length-4
-    same-length-5
-    same-length-6
+    (λ c κs. search needs)
+    (λ c. search needs)
+    (λ c κs. search needs)
+    (λ c. search needs)
+    (λ c κs. search needs)
+    (λ c. search needs)
+    (λ c. search needs)
+    (λ c. search needs)
+    (λ c. search needs)
+    (λ c. search needs)
+    (λ c. search needs)
     returns
     returns-2)

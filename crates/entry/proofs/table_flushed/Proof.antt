@@ -1,47 +1,14 @@
 -- `entry::table_flushed` meets its contract, by whether the code names a flush result.
 use mathlib.Core.Path.{_≡_, refl, ap}
 use mathlib.Core.Option.{none}
-use Rattle.asked.specs.declared.FlushedForm.the-variants.{Unknown}
-use Rattle.answers.specs.Arrived.{arrivedCall}
-use Rattle.asked.specs.Asked.{flushedForm, flushing}
+use Rattle.abi.specs.declared.codes.FlushedForm.the-variants.{Unknown}
+use Rattle.arrival.specs.Arrived.{arrivedCall}
+use Rattle.abi.specs.Asked.{flushedForm, flushing}
 use Rattle.entry.specs.Entry.{AnswersOut}
 use Rattle.entry.proofs.Forms.{by-form}
 use borrow.Author.Needs.{needs}
 use Rattle.entry.proofs.table_flushed.Statement.{statement}
 use Rattle.entry.proofs.table_flushed.Tie as tie
-
-flushed-form-requires : tie.Need-flushed-form-requires
-flushed-form-requires c κs = search needs
-
-enum-known-named : tie.Need-enum-known-named
-enum-known-named c = search needs
-
-arrived-requires : tie.Need-arrived-requires
-arrived-requires c κs = search needs
-
-enum-told : tie.Need-enum-told
-enum-told c = search needs
-
-put-unknown-requires : tie.Need-put-unknown-requires
-put-unknown-requires c κs = search needs
-
-same-length : tie.Need-same-length
-same-length c = search needs
-
-same-length-2 : tie.Need-same-length-2
-same-length-2 c = search needs
-
-same-length-3 : tie.Need-same-length-3
-same-length-3 c = search needs
-
-same-length-4 : tie.Need-same-length-4
-same-length-4 c = search needs
-
-same-length-5 : tie.Need-same-length-5
-same-length-5 c = search needs
-
-same-length-6 : tie.Need-same-length-6
-same-length-6 c = search needs
 
 returns : tie.Need-returns
 unfolding AnswersOut arrivedCall flushing
@@ -64,16 +31,16 @@ pub table-flushed-spec : {M : Type 1} → statement M
 table-flushed-spec =
     tie.close
     (tie.spec
-    flushed-form-requires
-    enum-known-named
-    arrived-requires
-    enum-told
-    put-unknown-requires
-    same-length
-    same-length-2
-    same-length-3
-    same-length-4
-    same-length-5
-    same-length-6
+    (λ c κs. search needs)
+    (λ c. search needs)
+    (λ c κs. search needs)
+    (λ c. search needs)
+    (λ c κs. search needs)
+    (λ c. search needs)
+    (λ c. search needs)
+    (λ c. search needs)
+    (λ c. search needs)
+    (λ c. search needs)
+    (λ c. search needs)
     returns
     returns-2)

@@ -11,16 +11,10 @@ returns c =
     let going = not-true _ (c .if1 .taken) in
     record { after = λ e. absurd (not-both e going); on = λ e. (refl, refl); whole = going; at = refl; got = refl }
 
-start-requires : tie.Need-start-requires
-start-requires c κs = search needs
-
-wrapping-add-u64-requires : tie.Need-wrapping-add-u64-requires
-wrapping-add-u64-requires c κs = search needs
-
 returns-2 : tie.Need-returns-2
 returns-2 c =
     let done = not-false _ (c .before .before .if1 .left) in
     record { after = λ e. (c .wrapping-add-u64 .ensures, c .before .start .ensures); on = λ e. absurd (not-both done e); whole = refl; at = refl; got = refl }
 
 pub fresh-spec : {M : Type 1} → statement M
-fresh-spec = tie.close (tie.spec returns start-requires wrapping-add-u64-requires returns-2)
+fresh-spec = tie.close (tie.spec returns (λ c κs. search needs) (λ c κs. search needs) returns-2)

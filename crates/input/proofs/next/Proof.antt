@@ -6,12 +6,6 @@ use Rattle.input.proofs.Cut.{from-fresh}
 use Rattle.input.proofs.next.Statement.{statement}
 use Rattle.input.proofs.next.Tie as tie
 
-fresh-requires : tie.Need-fresh-requires
-fresh-requires c κs = search needs
-
-scan-left-requires : tie.Need-scan-left-requires
-scan-left-requires c κs = search needs
-
 returns : tie.Need-returns
 returns c =
     let first = c .before .before .before .before .before .before in
@@ -20,9 +14,6 @@ returns c =
     let at = f .at in
     let got = f .got in
     record { from = first .fresh .result; fresh = f; left = λ h. (from-fresh (a .i) _ _ _ _ _ f (c .scan-left .ensures), refl); more = λ h. absurd (omega (arith, at, got)) }
-
-more-requires : tie.Need-more-requires
-more-requires c κs = search needs
 
 returns-2 : tie.Need-returns-2
 returns-2 c =
@@ -33,4 +24,4 @@ returns-2 c =
     record { from = first .fresh .result; fresh = f; left = λ h. absurd (omega (arith, at, got)); more = λ h. c .more .ensures _ }
 
 pub next-spec : {M : Type 1} → statement M
-next-spec = tie.close (tie.spec fresh-requires scan-left-requires returns more-requires returns-2)
+next-spec = tie.close (tie.spec (λ c κs. search needs) (λ c κs. search needs) returns (λ c κs. search needs) returns-2)

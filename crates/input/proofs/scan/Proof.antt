@@ -1,4 +1,4 @@
--- `scan` is safe and ends: the measure is what is left of the bytes.
+-- `input::scan` is safe and ends: the measure is what is left of the bytes.
 use Prim.Native.Nat.{_-_}
 use native.Mathlib.Omega.{arith}
 use borrow.Author.Needs.{needs}

@@ -9,14 +9,8 @@ use Rattle.input.specs.Input.{Scanned}
 use Rattle.input.proofs.scan_left.Statement.{statement}
 use Rattle.input.proofs.scan_left.Tie as tie
 
-front-requires : tie.Need-front-requires
-front-requires c κs = search needs
-
 slice-aggregate-scan : tie.Need-slice-aggregate-scan
 slice-aggregate-scan c = sym (length-take-le (c .before .before .front .result) (c .before .before .before .before .args .chunk .now) (c .before .before .front .ensures .0))
-
-scan-requires : tie.Need-scan-requires
-scan-requires c κs = search needs
 
 returns : tie.Need-returns
 returns c =
@@ -25,4 +19,4 @@ returns c =
     subst (λ (l : List ℕ). Scanned (a .i) (c .scan .result) (a .line .now) (c .scan .last .1 .0) (drop (a .i .at) l)) (e .1) (c .scan .ensures)
 
 pub scan-left-spec : {M : Type 1} → statement M
-scan-left-spec = tie.close (tie.spec front-requires slice-aggregate-scan scan-requires returns)
+scan-left-spec = tie.close (tie.spec (λ c κs. search needs) slice-aggregate-scan (λ c κs. search needs) returns)

@@ -13,23 +13,14 @@ use Rattle.iobuf.proofs.rotate_left.Tie as tie
 cut : (c : tie.After-lesser) → length (take (c .lesser .result) (c .before .before .args .s .now)) ≡ c .lesser .result
 cut c = length-take-le (c .lesser .result) (c .before .before .args .s .now) (omega arith)
 
-lesser-requires : tie.Need-lesser-requires
-lesser-requires c κs = search needs
-
 returns : tie.Need-returns
 returns c = let start = c .before .before .before in sym (turned-none (start .args .n) (start .args .k) (start .args .s .now) (c .if1 .taken))
-
-slice-relend-prefix-rotate : tie.Need-slice-relend-prefix-rotate
-slice-relend-prefix-rotate c = search needs
 
 slice-aggregate-rotate : tie.Need-slice-aggregate-rotate
 slice-aggregate-rotate c = sym (cut (c .before .before .before))
 
 rotate-requires : tie.Need-rotate-requires
 rotate-requires c κs = rw (cut (c .before .before .before)) (omega arith)
-
-same-length : tie.Need-same-length
-same-length c = search needs
 
 returns-2 : tie.Need-returns-2
 returns-2 c =
@@ -47,11 +38,11 @@ pub rotate-left-spec : {M : Type 1} → statement M
 rotate-left-spec =
     tie.close
     (tie.spec
-    lesser-requires
+    (λ c κs. search needs)
     returns
-    slice-relend-prefix-rotate
+    (λ c. search needs)
     slice-aggregate-rotate
     rotate-requires
-    same-length
+    (λ c. search needs)
     returns-2
     returns-3)

@@ -36,29 +36,14 @@ returns c =
     let start = c .before .before in
     sym (turned-empty (start .args .capacity) (start .args .buffer) (start .args .n) (start .args .k) (start .args .pool .now) (c .if1 .taken))
 
-div-if2 : tie.Need-div-if2
-div-if2 c = search needs
-
 mul-at : tie.Need-mul-at
 mul-at c = let h = inside c in omega arith
 
 add-end : tie.Need-add-end
 add-end c = let h = inside c in omega arith
 
-sub-rotate-left : tie.Need-sub-rotate-left
-sub-rotate-left c = search needs
-
-part-rotate-left-start : tie.Need-part-rotate-left-start
-part-rotate-left-start c = search needs
-
 part-rotate-left-end : tie.Need-part-rotate-left-end
 part-rotate-left-end c = inside c
-
-rotate-left-requires : tie.Need-rotate-left-requires
-rotate-left-requires c κs = search needs
-
-same-length : tie.Need-same-length
-same-length c = search needs
 
 returns-2 : tie.Need-returns-2
 returns-2 c =
@@ -83,13 +68,13 @@ turn-spec =
     tie.close
     (tie.spec
     returns
-    div-if2
+    (λ c. search needs)
     mul-at
     add-end
-    sub-rotate-left
-    part-rotate-left-start
+    (λ c. search needs)
+    (λ c. search needs)
     part-rotate-left-end
-    rotate-left-requires
-    same-length
+    (λ c κs. search needs)
+    (λ c. search needs)
     returns-2
     returns-3)

@@ -9,12 +9,9 @@ returns : tie.Need-returns
 unfolding onBlock
 returns c = rw (c .if1 .taken, mod-zero)
 
-rem-result : tie.Need-rem-result
-rem-result c = search needs
-
 returns-2 : tie.Need-returns-2
 unfolding onBlock
 returns-2 c = search needs
 
 pub on-block-spec : {M : Type 1} → statement M
-on-block-spec = tie.close (tie.spec returns rem-result returns-2)
+on-block-spec = tie.close (tie.spec returns (λ c. search needs) returns-2)

@@ -4,15 +4,6 @@ use borrow.Author.Needs.{needs}
 use Rattle.marks.proofs.gate_word.Statement.{statement}
 use Rattle.marks.proofs.gate_word.Tie as tie
 
-enum-told : tie.Need-enum-told
-enum-told c = search needs
-
-enum-told-2 : tie.Need-enum-told-2
-enum-told-2 c = search needs
-
-enum-told-3 : tie.Need-enum-told-3
-enum-told-3 c = search needs
-
 returns : tie.Need-returns
 unfolding gateWord
 returns c = search needs
@@ -26,4 +17,4 @@ unfolding gateWord
 returns-3 c = search needs
 
 pub gate-word-spec : {M : Type 1} → statement M
-gate-word-spec = tie.close (tie.spec enum-told enum-told-2 enum-told-3 returns returns-2 returns-3)
+gate-word-spec = tie.close (tie.spec (λ c. search needs) (λ c. search needs) (λ c. search needs) returns returns-2 returns-3)

@@ -18,24 +18,6 @@ returns-2 c =
     let a = c .before .before .args in
     sym (marked-mark (a .handle) (a .mark) (a .word) (a .store .now) (omega arith) (omega arith))
 
-mul-at : tie.Need-mul-at
-mul-at c = search needs
-
-add-at : tie.Need-add-at
-add-at c = search needs
-
-add-at-2 : tie.Need-add-at-2
-add-at-2 c = search needs
-
-mul-store : tie.Need-mul-store
-mul-store c = search needs
-
-slice-write-store : tie.Need-slice-write-store
-slice-write-store c = search needs
-
-same-length : tie.Need-same-length
-same-length c = search needs
-
 returns-3 : tie.Need-returns-3
 returns-3 c =
     let a = c .before .before .before .args in
@@ -52,11 +34,11 @@ put-mark-spec =
     (tie.spec
     returns
     returns-2
-    mul-at
-    add-at
-    add-at-2
-    mul-store
-    slice-write-store
-    same-length
+    (λ c. search needs)
+    (λ c. search needs)
+    (λ c. search needs)
+    (λ c. search needs)
+    (λ c. search needs)
+    (λ c. search needs)
     returns-3
     returns-4)

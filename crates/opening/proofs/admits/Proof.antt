@@ -8,10 +8,9 @@ use borrow.Author.Tests.{not-true, not-false}
 use lib.ListN.{length, getD}
 use Rattle.model.specs.declared.Opening.{Opening}
 use Rattle.model.specs.declared.Lengths.{Lengths}
-use Rattle.model.specs.Opening.{allTrue, numberRules, lengthRules, regionRules, eachRegion, idsRule, withinRule, apartRule, admits}
-use Rattle.model.specs.Memory.{plansIn, listed, opens}
+use Rattle.model.specs.Opening.{allTrue, numberRules, lengthRules, regionRules, eachRegion, idsRule, withinRule, apartRule, admits, plansIn, listed, opens}
 use Rattle.model.proofs.Rules.{numbers-mean, listed-mean}
-use Rattle.extents.proofs.CardRuns.{few-runs}
+use Rattle.opening.proofs.CardRuns.{few-runs}
 use Rattle.opening.proofs.admits.Statement.{statement}
 use Rattle.opening.proofs.admits.Tie as tie
 
@@ -63,9 +62,6 @@ few c h l =
     let a = c .before .before .before .before .before .before .before .args in
     few-runs (a .o .block) (a .o .regions) (a .plan .now) (each-true c) h l
 
-numbers-requires : tie.Need-numbers-requires
-numbers-requires c κs = search needs
-
 returns : tie.Need-returns
 returns c =
     let a = c .before .before .before .args in
@@ -96,17 +92,8 @@ within-rule-requires c κs = (long (c .before .before), few c)
 apart-rule-requires : tie.Need-apart-rule-requires
 apart-rule-requires c κs = (long (c .before .before .before), few (c .before))
 
-both-requires : tie.Need-both-requires
-both-requires c κs = search needs
-
-both-requires-2 : tie.Need-both-requires-2
-both-requires-2 c κs = search needs
-
 ids-rule-requires : tie.Need-ids-rule-requires
 ids-rule-requires c κs = (long (c .before .before .before .before .before .before), numbers-mean (c .before .before .before .before .before .before .before .before .before .before .before .args .o) (numbers-true (c .before .before .before .before .before .before .before .before)) .most-regions)
-
-both-requires-3 : tie.Need-both-requires-3
-both-requires-3 c κs = search needs
 
 returns-4 : tie.Need-returns-4
 unfolding withinRule apartRule
@@ -119,7 +106,7 @@ pub admits-spec : {M : Type 1} → statement M
 admits-spec =
     tie.close
     (tie.spec
-    numbers-requires
+    (λ c κs. search needs)
     returns
     lengths-requires
     returns-2
@@ -127,8 +114,8 @@ admits-spec =
     returns-3
     within-rule-requires
     apart-rule-requires
-    both-requires
-    both-requires-2
+    (λ c κs. search needs)
+    (λ c κs. search needs)
     ids-rule-requires
-    both-requires-3
+    (λ c κs. search needs)
     returns-4)

@@ -8,12 +8,6 @@ use borrow.Author.Needs.{needs}
 use Rattle.optable.proofs.accepted.Statement.{statement}
 use Rattle.optable.proofs.accepted.Tie as tie
 
-wrapping-add-u64-requires : tie.Need-wrapping-add-u64-requires
-wrapping-add-u64-requires c κs = search needs
-
-wrapping-add-u64-requires-2 : tie.Need-wrapping-add-u64-requires-2
-wrapping-add-u64-requires-2 c κs = search needs
-
 returns : tie.Need-returns
 unfolding acceptedIf wrap64 pick
 returns c =
@@ -29,4 +23,4 @@ returns-2 c =
 
 pub accepted-spec : {M : Type 1} → statement M
 accepted-spec =
-    tie.close (tie.spec wrapping-add-u64-requires wrapping-add-u64-requires-2 returns returns-2)
+    tie.close (tie.spec (λ c κs. search needs) (λ c κs. search needs) returns returns-2)

@@ -8,30 +8,6 @@ use borrow.Author.Needs.{needs}
 use Rattle.optable.proofs.released.Statement.{statement}
 use Rattle.optable.proofs.released.Tie as tie
 
-enum-told : tie.Need-enum-told
-enum-told c = search needs
-
-enum-told-2 : tie.Need-enum-told-2
-enum-told-2 c = search needs
-
-one-less-requires : tie.Need-one-less-requires
-one-less-requires c κs = search needs
-
-enum-told-3 : tie.Need-enum-told-3
-enum-told-3 c = search needs
-
-one-less-requires-2 : tie.Need-one-less-requires-2
-one-less-requires-2 c κs = search needs
-
-wrapping-add-u64-requires : tie.Need-wrapping-add-u64-requires
-wrapping-add-u64-requires c κs = search needs
-
-enum-told-4 : tie.Need-enum-told-4
-enum-told-4 c = search needs
-
-one-less-requires-3 : tie.Need-one-less-requires-3
-one-less-requires-3 c κs = search needs
-
 -- what is freed is the case that the match found
 as-told : (c : Counts) {r s : Frees} → r ≡ s → releasedBy s c ≡ releasedBy r c
 as-told c e = sym (ap (λ (x : Frees). releasedBy x c) e)
@@ -62,14 +38,14 @@ pub released-spec : {M : Type 1} → statement M
 released-spec =
     tie.close
     (tie.spec
-    enum-told
-    enum-told-2
-    one-less-requires
-    enum-told-3
-    one-less-requires-2
-    wrapping-add-u64-requires
-    enum-told-4
-    one-less-requires-3
+    (λ c. search needs)
+    (λ c. search needs)
+    (λ c κs. search needs)
+    (λ c. search needs)
+    (λ c κs. search needs)
+    (λ c κs. search needs)
+    (λ c. search needs)
+    (λ c κs. search needs)
     returns
     returns-2
     returns-3

@@ -5,19 +5,10 @@ use borrow.Author.Needs.{needs}
 use Rattle.optable.proofs.top.Statement.{statement}
 use Rattle.optable.proofs.top.Tie as tie
 
-mul-result : tie.Need-mul-result
-mul-result c = search needs
-
-shared-slice-read-result : tie.Need-shared-slice-read-result
-shared-slice-read-result c = search needs
-
-returns : tie.Need-returns
-returns c = search needs
-
 returns-2 : tie.Need-returns-2
 returns-2 c =
     let a = c .before .args in
     sym (List·getD-eq-default (a .free .now) 0 {n = a .live} (c .if1 .left))
 
 pub top-spec : {M : Type 1} → statement M
-top-spec = tie.close (tie.spec mul-result shared-slice-read-result returns returns-2)
+top-spec = tie.close (tie.spec (λ c. search needs) (λ c. search needs) (λ c. search needs) returns-2)

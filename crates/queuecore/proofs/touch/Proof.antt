@@ -4,19 +4,10 @@ use Prim.Native.Nat.{ℕ}
 use lib.ListN.{length}
 use borrow.Author.Tests.{not-true, not-false}
 use Rattle.model.specs.Memory.{lengthsOf, sameLengths}
-use Rattle.queuecore.proofs.Touching.{unfit}
+use Rattle.queuecore.proofs.QueuecoreTouching.{unfit}
 use borrow.Author.Needs.{needs}
 use Rattle.queuecore.proofs.touch.Statement.{statement}
 use Rattle.queuecore.proofs.touch.Tie as tie
-
-same-lengths-requires : tie.Need-same-lengths-requires
-same-lengths-requires c κs = search needs
-
-away-requires : tie.Need-away-requires
-away-requires c κs = search needs
-
-same-length : tie.Need-same-length
-same-length c = search needs
 
 returns : tie.Need-returns
 unfolding lengthsOf
@@ -24,24 +15,6 @@ returns c =
     let a = c .before .before .before .before .before .before .before .before .before .args in
     unfit (a .call) (a .row) (a .counts) (a .rows) (a .store .now) (a .free .now) (a .ready .now) (a .owners .now) (a .pool .now) (c .away .result) (c .away .ensures)
     (λ rows len. (ap (λ (k : ℕ). sameLengths (record { rows = k; store = length (a .store .now); free = length (a .free .now); ready = length (a .ready .now); owners = length (a .owners .now); pool = length (a .pool .now) }) (a .store .now)) len ∙ sym (c .before .before .same-lengths .ensures) ∙ not-true _ (c .before .if1 .taken)))
-
-arm-requires : tie.Need-arm-requires
-arm-requires c κs = search needs
-
-same-length-2 : tie.Need-same-length-2
-same-length-2 c = search needs
-
-same-length-3 : tie.Need-same-length-3
-same-length-3 c = search needs
-
-same-length-4 : tie.Need-same-length-4
-same-length-4 c = search needs
-
-same-length-5 : tie.Need-same-length-5
-same-length-5 c = search needs
-
-same-length-6 : tie.Need-same-length-6
-same-length-6 c = search needs
 
 returns-2 : tie.Need-returns-2
 unfolding lengthsOf
@@ -55,14 +28,14 @@ pub touch-spec : {M : Type 1} → statement M
 touch-spec =
     tie.close
     (tie.spec
-    same-lengths-requires
-    away-requires
-    same-length
+    (λ c κs. search needs)
+    (λ c κs. search needs)
+    (λ c. search needs)
     returns
-    arm-requires
-    same-length-2
-    same-length-3
-    same-length-4
-    same-length-5
-    same-length-6
+    (λ c κs. search needs)
+    (λ c. search needs)
+    (λ c. search needs)
+    (λ c. search needs)
+    (λ c. search needs)
+    (λ c. search needs)
     returns-2)

@@ -4,7 +4,7 @@ use Prim.Native.Nat.{ℕ, _<_}
 use native.Mathlib.Omega.{arith}
 use borrow.Author.Needs.{needs}
 use borrow.Author.Tests.{lt-ltb, not-true, not-false}
-use Rattle.ready.proofs.Groups.{alone}
+use Rattle.region.proofs.Groups.{alone}
 use Rattle.step.specs.Questions.{ask, firstNo, lengthAbove0, aligned, withinData}
 use Rattle.region.proofs.check.Statement.{statement}
 use Rattle.region.proofs.check.Tie as tie
@@ -20,12 +20,6 @@ returns-2 : tie.Need-returns-2
 unfolding ask firstNo lengthAbove0 aligned
 returns-2 c = rw (lt-ltb 0 _ (some _ (c .before .if1 .left)), not-true (c .before .before .before .args .on-block) (c .if2 .taken))
 
-within-requires : tie.Need-within-requires
-within-requires c κs = search needs
-
-ask-requires : tie.Need-ask-requires
-ask-requires c κs = search needs
-
 returns-3 : tie.Need-returns-3
 unfolding ask firstNo lengthAbove0 aligned withinData
 returns-3 c =
@@ -34,4 +28,4 @@ returns-3 c =
     (c .ask .ensures ∙ rw (c .before .within .ensures) (sym (alone (withinData (a .«data») (a .c) (a .q)))))
 
 pub check-spec : {M : Type 1} → statement M
-check-spec = tie.close (tie.spec returns returns-2 within-requires ask-requires returns-3)
+check-spec = tie.close (tie.spec returns returns-2 (λ c κs. search needs) (λ c κs. search needs) returns-3)

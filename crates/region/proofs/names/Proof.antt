@@ -2,7 +2,7 @@
 use mathlib.Core.Path.{sym, _∙_}
 use borrow.Author.Needs.{needs}
 use borrow.Author.Tests.{eq-eqb, ne-eqb}
-use Rattle.ready.proofs.Groups.{alone}
+use Rattle.region.proofs.Groups.{alone}
 use Rattle.step.specs.Questions.{ask, firstNo, volumeAndRegionMatch, generationMatches}
 use Rattle.region.proofs.names.Statement.{statement}
 use Rattle.region.proofs.names.Tie as tie
@@ -15,9 +15,6 @@ returns-2 : tie.Need-returns-2
 unfolding ask firstNo volumeAndRegionMatch
 returns-2 c = rw (eq-eqb _ _ (c .before .before .if1 .left), ne-eqb _ _ (c .if2 .taken))
 
-ask-requires : tie.Need-ask-requires
-ask-requires c κs = search needs
-
 returns-3 : tie.Need-returns-3
 unfolding ask firstNo volumeAndRegionMatch generationMatches
 returns-3 c =
@@ -25,4 +22,4 @@ returns-3 c =
     rw (eq-eqb _ _ (c .before .before .before .before .if1 .left), eq-eqb _ _ (c .before .before .if2 .left)) (c .ask .ensures ∙ sym (alone (generationMatches (a .generation) (a .c) (a .q))))
 
 pub names-spec : {M : Type 1} → statement M
-names-spec = tie.close (tie.spec returns returns-2 ask-requires returns-3)
+names-spec = tie.close (tie.spec returns returns-2 (λ c κs. search needs) returns-3)

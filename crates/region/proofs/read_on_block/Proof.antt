@@ -5,12 +5,6 @@ use Rattle.step.specs.Questions.{readOnBlock}
 use Rattle.region.proofs.read_on_block.Statement.{statement}
 use Rattle.region.proofs.read_on_block.Tie as tie
 
-on-block-requires : tie.Need-on-block-requires
-on-block-requires c κs = search needs
-
-on-block-requires-2 : tie.Need-on-block-requires-2
-on-block-requires-2 c κs = search needs
-
 returns : tie.Need-returns
 unfolding readOnBlock
 returns c = rw (sym (c .before .before .on-block .ensures) ∙ c .before .if1 .taken) (c .on-block2 .ensures)
@@ -20,4 +14,4 @@ unfolding readOnBlock
 returns-2 c = rw (sym (c .before .on-block .ensures) ∙ c .if1 .left)
 
 pub read-on-block-spec : {M : Type 1} → statement M
-read-on-block-spec = tie.close (tie.spec on-block-requires on-block-requires-2 returns returns-2)
+read-on-block-spec = tie.close (tie.spec (λ c κs. search needs) (λ c κs. search needs) returns returns-2)

@@ -4,12 +4,9 @@ use Rattle.step.specs.Questions.{writeOnBlock}
 use Rattle.region.proofs.write_on_block.Statement.{statement}
 use Rattle.region.proofs.write_on_block.Tie as tie
 
-on-block-requires : tie.Need-on-block-requires
-on-block-requires c κs = search needs
-
 returns : tie.Need-returns
 unfolding writeOnBlock
 returns c = search needs
 
 pub write-on-block-spec : {M : Type 1} → statement M
-write-on-block-spec = tie.close (tie.spec on-block-requires returns)
+write-on-block-spec = tie.close (tie.spec (λ c κs. search needs) returns)

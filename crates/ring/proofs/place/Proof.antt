@@ -9,15 +9,6 @@ use borrow.Author.Needs.{needs}
 use Rattle.ring.proofs.place.Statement.{statement}
 use Rattle.ring.proofs.place.Tie as tie
 
-shared-slice-read-i : tie.Need-shared-slice-read-i
-shared-slice-read-i c = search needs
-
-rem-i : tie.Need-rem-i
-rem-i c = search needs
-
-rem-i-2 : tie.Need-rem-i-2
-rem-i-2 c = search needs
-
 add-i : tie.Need-add-i
 add-i c =
     let r = c .before .pre in
@@ -25,9 +16,6 @@ add-i c =
     let i = mod-lt (getD (a .ready .now) 0 0) (r .some) in
     let n = mod-lt (a .count) (r .some) in
     omega (arith, r .most, i, n)
-
-rem-i-3 : tie.Need-rem-i-3
-rem-i-3 c = search needs
 
 mul-result : tie.Need-mul-result
 mul-result c =
@@ -52,4 +40,4 @@ returns c =
 pub place-spec : {M : Type 1} → statement M
 place-spec =
     tie.close
-    (tie.spec shared-slice-read-i rem-i rem-i-2 add-i rem-i-3 mul-result add-result returns)
+    (tie.spec (λ c. search needs) (λ c. search needs) (λ c. search needs) add-i (λ c. search needs) mul-result add-result returns)

@@ -10,9 +10,6 @@ use borrow.Author.Needs.{needs}
 use Rattle.ring.proofs.pop.Statement.{statement}
 use Rattle.ring.proofs.pop.Tie as tie
 
-ring-requires : tie.Need-ring-requires
-ring-requires c κs = search needs
-
 slice-read-i : tie.Need-slice-read-i
 slice-read-i c =
     let r = is-ring _ _ _ (c .before .before .ring .ensures) (c .before .if1 .taken) in
@@ -39,18 +36,12 @@ slice-write-ready c =
     let r = is-ring _ _ _ (c .before .before .ring .ensures) (c .before .if1 .taken) in
     omega (arith, r .room)
 
-same-length : tie.Need-same-length
-same-length c = search needs
-
 returns : tie.Need-returns
 returns c =
     let a = c .before .before .before .before .before .args in
     let i = getD (a .ready .now) 0 0 in
     ap (λ (k : ℕ). set (a .ready .now) 0 k) (mod-add-mod i (a .depth) 1 ∙ ap (λ (k : ℕ). k % a .depth) (add-one i))
     ∙ sym (popped-in (a .depth) (a .ready .now) (sym (c .before .before .ring .ensures) ∙ c .before .if1 .taken))
-
-same-length-2 : tie.Need-same-length-2
-same-length-2 c = search needs
 
 returns-2 : tie.Need-returns-2
 returns-2 c =
@@ -61,13 +52,13 @@ pub pop-spec : {M : Type 1} → statement M
 pop-spec =
     tie.close
     (tie.spec
-    ring-requires
+    (λ c κs. search needs)
     slice-read-i
     rem-ready
     add-ready
     rem-ready-2
     slice-write-ready
-    same-length
+    (λ c. search needs)
     returns
-    same-length-2
+    (λ c. search needs)
     returns-2)

@@ -18,12 +18,6 @@ returns-2 c =
     let some : 0 < d = omega (arith, c .before .if1 .left) in
     rw (lt-ltb 0 d some, lt-leb d 4096 (c .if2 .taken))
 
-mul-result : tie.Need-mul-result
-mul-result c = search needs
-
-add-result : tie.Need-add-result
-add-result c = search needs
-
 returns-3 : tie.Need-returns-3
 unfolding ringIn
 returns-3 c =
@@ -32,4 +26,4 @@ returns-3 c =
     rw (lt-ltb 0 d some, le-leb d 4096 (c .if2 .left))
 
 pub ring-spec : {M : Type 1} → statement M
-ring-spec = tie.close (tie.spec returns returns-2 mul-result add-result returns-3)
+ring-spec = tie.close (tie.spec returns returns-2 (λ c. search needs) (λ c. search needs) returns-3)

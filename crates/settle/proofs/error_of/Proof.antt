@@ -4,18 +4,6 @@ use borrow.Author.Needs.{needs}
 use Rattle.settle.proofs.error_of.Statement.{statement}
 use Rattle.settle.proofs.error_of.Tie as tie
 
-enum-told : tie.Need-enum-told
-enum-told c = search needs
-
-enum-known-answer : tie.Need-enum-known-answer
-enum-known-answer c = search needs
-
-enum-told-2 : tie.Need-enum-told-2
-enum-told-2 c = search needs
-
-enum-known-answer-2 : tie.Need-enum-known-answer-2
-enum-known-answer-2 c = search needs
-
 returns : tie.Need-returns
 unfolding errorOf
 returns c = rw (c .enum-told .given .1)
@@ -36,10 +24,10 @@ pub error-of-spec : {M : Type 1} → statement M
 error-of-spec =
     tie.close
     (tie.spec
-    enum-told
-    enum-known-answer
-    enum-told-2
-    enum-known-answer-2
+    (λ c. search needs)
+    (λ c. search needs)
+    (λ c. search needs)
+    (λ c. search needs)
     returns
     returns-2
     returns-3

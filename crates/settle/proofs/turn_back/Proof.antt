@@ -7,9 +7,6 @@ use borrow.Author.Needs.{needs}
 use Rattle.settle.proofs.turn_back.Statement.{statement}
 use Rattle.settle.proofs.turn_back.Tie as tie
 
-left-requires : tie.Need-left-requires
-left-requires c κs = search needs
-
 returns : tie.Need-returns
 unfolding turnedBy turnedBack
 returns c = λ bytes. rw (c .before .if1 .taken, c .left .ensures)
@@ -19,4 +16,4 @@ unfolding turnedBy turnedBack
 returns-2 c = λ bytes. rw (c .if1 .left) (turned-none (c .before .args .s .total) 0 bytes refl)
 
 pub turn-back-spec : {M : Type 1} → statement M
-turn-back-spec = tie.close (tie.spec left-requires returns returns-2)
+turn-back-spec = tie.close (tie.spec (λ c κs. search needs) returns returns-2)

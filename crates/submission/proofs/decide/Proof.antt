@@ -11,18 +11,6 @@ use borrow.Author.Needs.{needs}
 use Rattle.submission.proofs.decide.Statement.{statement}
 use Rattle.submission.proofs.decide.Tie as tie
 
-enum-known-asked : tie.Need-enum-known-asked
-enum-known-asked c = search needs
-
-enum-told : tie.Need-enum-told
-enum-told c = search needs
-
-top-requires : tie.Need-top-requires
-top-requires c κs = search needs
-
-first-piece-requires : tie.Need-first-piece-requires
-first-piece-requires c κs = search needs
-
 -- a no is no yes
 abbrev IsNo : Asked → Type 0
 IsNo Yes = ⊥
@@ -47,4 +35,4 @@ returns-2 c =
 pub decide-spec : {M : Type 1} → statement M
 decide-spec =
     tie.close
-    (tie.spec enum-known-asked enum-told top-requires first-piece-requires returns returns-2)
+    (tie.spec (λ c. search needs) (λ c. search needs) (λ c κs. search needs) (λ c κs. search needs) returns returns-2)

@@ -5,12 +5,9 @@ use Rattle.regionmap.specs.Words.{positionOf, wrap64}
 use Rattle.submission.proofs.end_of.Statement.{statement}
 use Rattle.submission.proofs.end_of.Tie as tie
 
-wrapping-add-u64-requires : tie.Need-wrapping-add-u64-requires
-wrapping-add-u64-requires c κs = search needs
-
 returns : tie.Need-returns
 unfolding wrap64
 returns c = ap positionOf (c .wrapping-add-u64 .ensures)
 
 pub end-of-spec : {M : Type 1} → statement M
-end-of-spec = tie.close (tie.spec wrapping-add-u64-requires returns)
+end-of-spec = tie.close (tie.spec (λ c κs. search needs) returns)

@@ -8,15 +8,6 @@ use borrow.Author.Needs.{needs}
 use Rattle.submission.proofs.read_page.Statement.{statement}
 use Rattle.submission.proofs.read_page.Tie as tie
 
-ask-read-requires : tie.Need-ask-read-requires
-ask-read-requires c κs = search needs
-
-end-of-requires : tie.Need-end-of-requires
-end-of-requires c κs = search needs
-
-decide-requires : tie.Need-decide-requires
-decide-requires c κs = search needs
-
 returns : tie.Need-returns
 unfolding readVerdict
 returns c =
@@ -25,4 +16,4 @@ returns c =
     (c .before .before .before .ask-read .result) (c .before .before .before .ask-read .ensures) (c .before .end-of .result) (c .before .end-of .ensures) (c .decide .result) (c .decide .ensures)
 
 pub read-page-spec : {M : Type 1} → statement M
-read-page-spec = tie.close (tie.spec ask-read-requires end-of-requires decide-requires returns)
+read-page-spec = tie.close (tie.spec (λ c κs. search needs) (λ c κs. search needs) (λ c κs. search needs) returns)

@@ -8,15 +8,6 @@ use borrow.Author.Needs.{needs}
 use Rattle.submission.proofs.write.Statement.{statement}
 use Rattle.submission.proofs.write.Tie as tie
 
-ask-write-requires : tie.Need-ask-write-requires
-ask-write-requires c κs = search needs
-
-end-of-requires : tie.Need-end-of-requires
-end-of-requires c κs = search needs
-
-decide-requires : tie.Need-decide-requires
-decide-requires c κs = search needs
-
 returns : tie.Need-returns
 unfolding writeVerdict
 returns c =
@@ -25,4 +16,4 @@ returns c =
     (c .before .before .before .ask-write .result) (c .before .before .before .ask-write .ensures) (c .before .end-of .result) (c .before .end-of .ensures) (c .decide .result) (c .decide .ensures)
 
 pub write-spec : {M : Type 1} → statement M
-write-spec = tie.close (tie.spec ask-write-requires end-of-requires decide-requires returns)
+write-spec = tie.close (tie.spec (λ c κs. search needs) (λ c κs. search needs) (λ c κs. search needs) returns)

@@ -7,9 +7,6 @@ use borrow.Author.Needs.{needs}
 use Rattle.submitter.proofs.answer.Statement.{statement}
 use Rattle.submitter.proofs.answer.Tie as tie
 
-reply-requires : tie.Need-reply-requires
-reply-requires c κs = search needs
-
 returns : tie.Need-returns
 unfolding answerOf pick
 returns c =
@@ -23,4 +20,4 @@ returns-2 c =
     sym (ap (λ (t : Bool). answerOf t (a .x) (a .counts) (a .l)) (c .if1 .left))
 
 pub answer-spec : {M : Type 1} → statement M
-answer-spec = tie.close (tie.spec reply-requires returns returns-2)
+answer-spec = tie.close (tie.spec (λ c κs. search needs) returns returns-2)

@@ -48,28 +48,28 @@ use Rattle.optable.proofs.Element.{R}
 use Rattle.optable.proofs.Element as Element
 use Rattle.optable.proofs.Tally.{N}
 use Rattle.optable.proofs.Tally as Tally
-use Rattle.counts.proofs.Counted.{flag, frees, Becomes}
-use Rattle.rows.proofs.find.Symbol as find-def
-use Rattle.rows.proofs.find.Symbol.{name as #rows·find}
-use Rattle.rows.proofs.find.Met as find-thm
-use Rattle.rows.proofs.claim.Symbol as claim-def
-use Rattle.rows.proofs.claim.Symbol.{name as #rows·claim}
-use Rattle.rows.proofs.claim.Met as claim-thm
-use Rattle.rows.proofs.release.Symbol as row-release-def
-use Rattle.rows.proofs.release.Symbol.{name as #rows·release}
-use Rattle.rows.proofs.release.Met as row-release-thm
-use Rattle.rows.proofs.Storing.{Becomes as RowsBecome}
-use Rattle.rows.specs.Claimed.{claimedIn, releasedIn}
-use Rattle.counts.proofs.accept.Symbol as accept-def
-use Rattle.counts.proofs.accept.Symbol.{name as #counts·accept}
-use Rattle.counts.proofs.accept.Met as accept-thm
-use Rattle.counts.proofs.release.Symbol as release-def
-use Rattle.counts.proofs.release.Symbol.{name as #counts·release}
-use Rattle.counts.proofs.release.Met as release-thm
-use Rattle.called.specs.Called.{placeOf}
-use Rattle.called.proofs.place.Symbol as place-def
-use Rattle.called.proofs.place.Symbol.{name as #called·place}
-use Rattle.called.proofs.place.Met as place-thm
+use Rattle.optable.proofs.Counted.{flag, frees, Becomes}
+use Rattle.optable.proofs.rows.find.Symbol as find-def
+use Rattle.optable.proofs.rows.find.Symbol.{name as #rows·find}
+use Rattle.optable.proofs.rows.find.Met as find-thm
+use Rattle.optable.proofs.rows.claim.Symbol as claim-def
+use Rattle.optable.proofs.rows.claim.Symbol.{name as #rows·claim}
+use Rattle.optable.proofs.rows.claim.Met as claim-thm
+use Rattle.optable.proofs.rows.release.Symbol as row-release-def
+use Rattle.optable.proofs.rows.release.Symbol.{name as #rows·release}
+use Rattle.optable.proofs.rows.release.Met as row-release-thm
+use Rattle.optable.proofs.Storing.{Becomes as RowsBecome}
+use Rattle.optable.specs.Claimed.{claimedIn, releasedIn}
+use Rattle.optable.proofs.counts.accept.Symbol as accept-def
+use Rattle.optable.proofs.counts.accept.Symbol.{name as #counts·accept}
+use Rattle.optable.proofs.counts.accept.Met as accept-thm
+use Rattle.optable.proofs.counts.release.Symbol as release-def
+use Rattle.optable.proofs.counts.release.Symbol.{name as #counts·release}
+use Rattle.optable.proofs.counts.release.Met as release-thm
+use Rattle.optable.specs.Called.{placeOf}
+use Rattle.optable.proofs.touched.place.Symbol as place-def
+use Rattle.optable.proofs.touched.place.Symbol.{name as #called·place}
+use Rattle.optable.proofs.touched.place.Met as place-thm
 use Rattle.queuecore.proofs.touch.Symbol as touch-def
 use Rattle.queuecore.proofs.touch.Symbol.{name as #queuecore·touch}
 use Rattle.queuecore.proofs.touch.Met as touch-thm
@@ -322,10 +322,10 @@ call-spec 𝓤 H 𝓜 𝓖 𝓡 =
     entered 𝓤 H (tripleOf 𝓤 H (𝓖 .A) self.signature (self.spec 𝓤 H (𝓖 .A) (𝓜 .mem) (𝓡 .run)))
     (tables 𝓤 H 𝓜 𝓡 code.env .C) (tables 𝓤 H 𝓜 𝓡 code.env .Λ) #submitter·call code.function (code.unfolded 𝓤 H 𝓜 𝓡)
     (self-meets 𝓤 H (𝓖 .A) (givenOf 𝓤 H 𝓜 𝓖) (𝓜 .mem) (𝓡 .run) (tablesOf 𝓤 H 𝓜 (tables 𝓤 H 𝓜 𝓡 code.env))
-    (cited 𝓤 H (Place 𝓤 H (𝓖 .A) (𝓜 .mem) (𝓡 .run)) 𝓜 𝓡 code.env #called·place place-def.routine code.calls-called·place (place-thm.met 𝓤 H 𝓜 𝓖 𝓡))
-    (cited 𝓤 H (Find 𝓤 H (𝓖 .A) (𝓜 .mem) (𝓡 .run)) 𝓜 𝓡 code.env #rows·find find-def.routine code.calls-rows·find (find-thm.met 𝓤 H 𝓜 𝓖 𝓡))
+    (cited 𝓤 H (Place 𝓤 H (𝓖 .A) (𝓜 .mem) (𝓡 .run)) 𝓜 𝓡 code.env #called·place place-def.routine code.calls-optable·touched·place (place-thm.met 𝓤 H 𝓜 𝓖 𝓡))
+    (cited 𝓤 H (Find 𝓤 H (𝓖 .A) (𝓜 .mem) (𝓡 .run)) 𝓜 𝓡 code.env #rows·find find-def.routine code.calls-optable·rows·find (find-thm.met 𝓤 H 𝓜 𝓖 𝓡))
     (cited 𝓤 H (Touch 𝓤 H (𝓖 .A) (𝓜 .mem) (𝓡 .run)) 𝓜 𝓡 code.env #queuecore·touch touch-def.routine code.calls-queuecore·touch (touch-thm.met 𝓤 H 𝓜 𝓖 𝓡))
-    (cited 𝓤 H (RowsBecome claimedIn 𝓤 H (𝓖 .A)) 𝓜 𝓡 code.env #rows·claim claim-def.routine code.calls-rows·claim (claim-thm.met 𝓤 H 𝓜 𝓖 𝓡))
-    (cited 𝓤 H (RowsBecome releasedIn 𝓤 H (𝓖 .A)) 𝓜 𝓡 code.env #rows·release row-release-def.routine code.calls-rows·release (row-release-thm.met 𝓤 H 𝓜 𝓖 𝓡))
-    (cited 𝓤 H (Becomes flag acceptedIf 𝓤 H (𝓖 .A)) 𝓜 𝓡 code.env #counts·accept accept-def.routine code.calls-counts·accept (accept-thm.met 𝓤 H 𝓜 𝓖 𝓡))
-    (cited 𝓤 H (Becomes frees releasedBy 𝓤 H (𝓖 .A)) 𝓜 𝓡 code.env #counts·release release-def.routine code.calls-counts·release (release-thm.met 𝓤 H 𝓜 𝓖 𝓡)))
+    (cited 𝓤 H (RowsBecome claimedIn 𝓤 H (𝓖 .A)) 𝓜 𝓡 code.env #rows·claim claim-def.routine code.calls-optable·rows·claim (claim-thm.met 𝓤 H 𝓜 𝓖 𝓡))
+    (cited 𝓤 H (RowsBecome releasedIn 𝓤 H (𝓖 .A)) 𝓜 𝓡 code.env #rows·release row-release-def.routine code.calls-optable·rows·release (row-release-thm.met 𝓤 H 𝓜 𝓖 𝓡))
+    (cited 𝓤 H (Becomes flag acceptedIf 𝓤 H (𝓖 .A)) 𝓜 𝓡 code.env #counts·accept accept-def.routine code.calls-optable·counts·accept (accept-thm.met 𝓤 H 𝓜 𝓖 𝓡))
+    (cited 𝓤 H (Becomes frees releasedBy 𝓤 H (𝓖 .A)) 𝓜 𝓡 code.env #counts·release release-def.routine code.calls-optable·counts·release (release-thm.met 𝓤 H 𝓜 𝓖 𝓡)))

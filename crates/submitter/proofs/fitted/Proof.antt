@@ -8,18 +8,12 @@ use Rattle.layout.specs.Pick.{pick}
 use Rattle.model.specs.declared.Lengths.{Lengths}
 use Rattle.model.specs.declared.Opening.{Opening}
 use Rattle.model.specs.Memory.{sameLengths, settingsIn}
-use Rattle.store.specs.Prepared.{lengthsWith}
+use Rattle.opening.specs.Prepared.{lengthsWith}
 use Rattle.submitter.specs.Look.{fitOf}
 use Rattle.submitter.proofs.Looking.{enough-words}
 use borrow.Author.Needs.{needs}
 use Rattle.submitter.proofs.fitted.Statement.{statement}
 use Rattle.submitter.proofs.fitted.Tie as tie
-
-same-lengths-requires : tie.Need-same-lengths-requires
-same-lengths-requires c κs = search needs
-
-settings-requires : tie.Need-settings-requires
-settings-requires c κs = search needs
 
 -- the depth by a test that is known
 by-test : (l : Lengths) (s : List ℕ) {t : Bool} → sameLengths l s ≡ t → record { fits = t; depth = pick t (settingsIn s .depth) 0 } ≡ fitOf l s
@@ -42,4 +36,4 @@ returns-2 c =
     by-test l (a .store .now) (sym (c .before .same-lengths .ensures) ∙ c .if1 .left)
 
 pub fitted-spec : {M : Type 1} → statement M
-fitted-spec = tie.close (tie.spec same-lengths-requires settings-requires returns returns-2)
+fitted-spec = tie.close (tie.spec (λ c κs. search needs) (λ c κs. search needs) returns returns-2)

@@ -46,12 +46,12 @@ use Rattle.optable.proofs.Called.{comes}
 use Rattle.optable.proofs.Element.{R}
 use Rattle.optable.proofs.Tally.{N}
 use Rattle.optable.proofs.Tally as Tally
-use Rattle.lookup.specs.declared.Looked.{Looked}
-use Rattle.lookup.proofs.Found.{L, found-ty, found-val, found-spelt, found-makes, found-typed}
-use Rattle.lookup.proofs.look as looks
-use Rattle.lookup.proofs.look.Symbol as look-def
-use Rattle.lookup.proofs.look.Symbol.{name as #lookup·look}
-use Rattle.lookup.proofs.look.Met as look-thm
+use Rattle.optable.specs.declared.lookup.Looked.{Looked}
+use Rattle.optable.proofs.Found.{L, found-ty, found-val, found-spelt, found-makes, found-typed}
+use Rattle.optable.proofs.lookup.look as looks
+use Rattle.optable.proofs.lookup.look.Symbol as look-def
+use Rattle.optable.proofs.lookup.look.Symbol.{name as #lookup·look}
+use Rattle.optable.proofs.lookup.look.Met as look-thm
 use Rattle.submitter.specs.declared.Fit.{Fit}
 use Rattle.submitter.proofs.Looking.{fit, seen, replied, looks-to}
 use Rattle.submitter.proofs.Slices.{Words, count, comes-beside}
@@ -316,5 +316,5 @@ lookup-spec 𝓤 H 𝓜 𝓖 𝓡 =
     (tables 𝓤 H 𝓜 𝓡 code.env .C) (tables 𝓤 H 𝓜 𝓡 code.env .Λ) #submitter·lookup code.function (code.unfolded 𝓤 H 𝓜 𝓡)
     (self-meets 𝓤 H (𝓖 .A) (givenOf 𝓤 H 𝓜 𝓖) (𝓜 .mem) (𝓡 .run) (tablesOf 𝓤 H 𝓜 (tables 𝓤 H 𝓜 𝓡 code.env))
     (cited 𝓤 H (Fitted 𝓤 H (𝓖 .A) (𝓜 .mem) (𝓡 .run)) 𝓜 𝓡 code.env #submitter·fitted fitted-def.routine code.calls-submitter·fitted (fitted-thm.met 𝓤 H 𝓜 𝓖 𝓡))
-    (cited 𝓤 H (Look 𝓤 H (𝓖 .A) (𝓜 .mem) (𝓡 .run)) 𝓜 𝓡 code.env #lookup·look look-def.routine code.calls-lookup·look (look-thm.met 𝓤 H 𝓜 𝓖 𝓡))
+    (cited 𝓤 H (Look 𝓤 H (𝓖 .A) (𝓜 .mem) (𝓡 .run)) 𝓜 𝓡 code.env #lookup·look look-def.routine code.calls-optable·lookup·look (look-thm.met 𝓤 H 𝓜 𝓖 𝓡))
     (cited 𝓤 H (Answer 𝓤 H (𝓖 .A) (𝓜 .mem) (𝓡 .run)) 𝓜 𝓡 code.env #submitter·answer answer-def.routine code.calls-submitter·answer (answer-thm.met 𝓤 H 𝓜 𝓖 𝓡)))

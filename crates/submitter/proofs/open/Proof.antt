@@ -41,16 +41,16 @@ use denote.Triple.Walked.{says, Stays, gave-slice, stay-dropped, walkOf, goes-ga
 use Rattle.model.specs.declared.Opening.{Opening}
 use Rattle.model.specs.declared.Row.{Row}
 use Rattle.model.specs.Memory.{rowsOpened}
-use Rattle.store.specs.Prepared.{lengthsWith, Prepared}
-use Rattle.store.proofs.prepare as prepare
-use Rattle.store.proofs.prepare.Symbol as prepare-def
-use Rattle.store.proofs.prepare.Symbol.{name as #store·prepare}
-use Rattle.store.proofs.prepare.Met as prepare-thm
+use Rattle.opening.specs.Prepared.{lengthsWith, Prepared}
+use Rattle.opening.proofs.store.prepare as prepare
+use Rattle.opening.proofs.store.prepare.Symbol as prepare-def
+use Rattle.opening.proofs.store.prepare.Symbol.{name as #store·prepare}
+use Rattle.opening.proofs.store.prepare.Met as prepare-thm
 use Rattle.optable.proofs.Element.{R}
-use Rattle.rows.proofs.new as new
-use Rattle.rows.proofs.new.Symbol as new-def
-use Rattle.rows.proofs.new.Symbol.{name as #rows·new}
-use Rattle.rows.proofs.new.Met as new-thm
+use Rattle.optable.proofs.rows.new as new
+use Rattle.optable.proofs.rows.new.Symbol as new-def
+use Rattle.optable.proofs.rows.new.Symbol.{name as #rows·new}
+use Rattle.optable.proofs.rows.new.Met as new-thm
 use Rattle.submitter.specs.declared.Opened.{Opened}
 use Rattle.submitter.specs.Open.{openedWith}
 use Rattle.submitter.proofs.Opening.{opens-to}
@@ -301,6 +301,6 @@ open-spec 𝓤 H 𝓜 𝓖 𝓡 =
     entered 𝓤 H (tripleOf 𝓤 H (𝓖 .A) self.signature (self.spec 𝓤 H (𝓖 .A) (𝓜 .mem) (𝓡 .run)))
     (tables 𝓤 H 𝓜 𝓡 code.env .C) (tables 𝓤 H 𝓜 𝓡 code.env .Λ) #submitter·open code.function (code.unfolded 𝓤 H 𝓜 𝓡)
     (self-meets 𝓤 H (𝓖 .A) (givenOf 𝓤 H 𝓜 𝓖) (𝓜 .mem) (𝓡 .run) (tablesOf 𝓤 H 𝓜 (tables 𝓤 H 𝓜 𝓡 code.env))
-    (cited 𝓤 H (Prepare 𝓤 H (𝓖 .A) (𝓜 .mem) (𝓡 .run)) 𝓜 𝓡 code.env #store·prepare prepare-def.routine code.calls-store·prepare (prepare-thm.met 𝓤 H 𝓜 𝓖 𝓡))
-    (cited 𝓤 H (New 𝓤 H (𝓖 .A) (𝓜 .mem) (𝓡 .run)) 𝓜 𝓡 code.env #rows·new new-def.routine code.calls-rows·new (new-thm.met 𝓤 H 𝓜 𝓖 𝓡))
+    (cited 𝓤 H (Prepare 𝓤 H (𝓖 .A) (𝓜 .mem) (𝓡 .run)) 𝓜 𝓡 code.env #store·prepare prepare-def.routine code.calls-opening·store·prepare (prepare-thm.met 𝓤 H 𝓜 𝓖 𝓡))
+    (cited 𝓤 H (New 𝓤 H (𝓖 .A) (𝓜 .mem) (𝓡 .run)) 𝓜 𝓡 code.env #rows·new new-def.routine code.calls-optable·rows·new (new-thm.met 𝓤 H 𝓜 𝓖 𝓡))
     (cited 𝓤 H (Reply 𝓤 H (𝓖 .A) (𝓜 .mem) (𝓡 .run)) 𝓜 𝓡 code.env #submitter·reply reply-def.routine code.calls-submitter·reply (reply-thm.met 𝓤 H 𝓜 𝓖 𝓡)))

@@ -1,2 +1,0 @@
--- Proofs about the functions of src/, and what those of tablelines share with them.
-pub mod Doing

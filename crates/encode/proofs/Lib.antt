@@ -1,2 +1,0 @@
--- Proofs about the definitions of specs/.
-pub mod Words

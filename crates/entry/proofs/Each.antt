@@ -1,0 +1,111 @@
+-- From what the parts of a call's own function ensure to what it ensures: with other lengths nothing is done, and else the call is its arm's, its row and the
+-- counts put into their words (Calling).
+use mathlib.Core.Path.{_≡_, refl, sym, ap, _∙_}
+use mathlib.Core.Bool.{Bool, true, false, _&&_}
+use mathlib.Core.List.{List}
+use Prim.Native.Nat.{ℕ, _/_, _%_}
+use lib.ListN.{length, getD, set}
+use lib.Seq.{set-getD}
+use lib.Dec.{eqb}
+use borrow.Author.Tests.{eqb-true}
+use Rattle.layout.proofs.Tests.{not-both, and-left, and-right}
+use Rattle.completion.specs.declared.Refusal.the-variants.{Unfit}
+use Rattle.completion.specs.declared.Reply.{Reply}
+use Rattle.completion.specs.declared.Reply.the-variants.{No as turnedAway}
+use Rattle.model.specs.declared.Call.{Call}
+use Rattle.model.specs.declared.Counts.{Counts}
+use Rattle.model.specs.declared.Row.{Row}
+use Rattle.model.specs.State.{freed}
+use Rattle.model.specs.Memory.{lengthsOf, sameLengths}
+use Rattle.step.specs.Lists.{isAway}
+use Rattle.optable.specs.declared.touched.Touched.{Touched}
+use Rattle.optable.specs.Called.{lentOf, awayWith, placeOf, ArmTo, TouchesTo}
+use Rattle.marks.specs.Marks.{MarksTo}
+use Rattle.queuecore.proofs.QueuecoreTouching.{unfit}
+use Rattle.abi.specs.RowWords.{rowsIn}
+use Rattle.abi.proofs.Laws.{count}
+use Rattle.entry.specs.WordCalls.{countsIn, lentIn, Counted, Put}
+use Rattle.entry.proofs.Calling.{put-in-words}
+use Rattle.entry.specs.WholeRows.{Whole, CallsWhole, fitsIn}
+
+-- the lengths, with any rows as many as these
+as-many : (rows store free ready owners pool : List ℕ) (rs : List Row) → length rs ≡ length rows / 16
+    → sameLengths (lengthsOf (lentOf rs store free ready owners pool)) store ≡ sameLengths (lengthsOf (lentIn rows store free ready owners pool)) store
+unfolding lengthsOf
+as-many rows store free ready owners pool rs len =
+    ap (λ (k : ℕ). sameLengths (record { rows = k; store = length store; free = length free; ready = length ready; owners = length owners; pool = length pool }) store) (len ∙ sym (count rows))
+
+-- nothing is put of a call that is turned away
+away-put : (row : Row) (at : ℕ) (c : Counts) (counts rows : List ℕ) → Put (awayWith row Unfit) at c counts rows (turnedAway Unfit) counts rows
+unfolding awayWith isAway
+away-put row at c counts rows = record {
+  counted = record { reply = refl; turned-away = λ e. refl; counts-are = λ e. absurd (not-both refl e) };
+  turned-away = λ e. refl;
+  row-is = λ e. absurd (not-both refl e);
+  others = λ i apart. refl;
+  long = refl;
+}
+
+module _ (call : Call) (counts rows store free ready owners pool : List ℕ) where
+  -- whether the lengths are the opening's, with any rows as many as these
+  abbrev same : List Row → Bool
+  same rs = sameLengths (lengthsOf (lentOf rs store free ready owners pool)) store
+
+  other : Whole rows → fitsIn rows store free ready owners pool ≡ false → same (rowsIn rows) ≡ false
+  unfolding fitsIn
+  other w unlike = sym (ap (λ (k : ℕ). eqb k 0 && same (rowsIn rows)) w) ∙ unlike
+
+  -- "A later call with another length of row memory or pool gets 13 first."
+  pub turned-off : (b : Bool) → b ≡ fitsIn rows store free ready owners pool → b ≡ false → CallsWhole call counts rows store free ready owners pool (turnedAway Unfit) counts rows store free ready owners pool
+  turned-off b is unlike = record {
+    whole = λ w.
+        let c = countsIn counts in
+        let row = getD (rowsIn rows) (placeOf call c free) (freed 0) in
+        put-in-words call counts rows store free ready owners pool (awayWith row Unfit) store free ready owners pool c refl (placeOf call c free) refl row refl
+        (unfit call row c (length rows / 16) store free ready owners pool (awayWith row Unfit) refl (λ rs len. as-many rows store free ready owners pool rs len ∙ other w (sym is ∙ unlike)))
+        (turnedAway Unfit) counts rows (away-put row (placeOf call c free) c counts rows);
+    cut = λ cut. (refl, refl, refl, refl, refl, refl, refl, refl);
+  }
+
+  module _ (t : Touched) (store′ free′ ready′ owners′ pool′ : List ℕ) (b : Bool) (is : b ≡ fitsIn rows store free ready owners pool) (fit : b ≡ true) (c : Counts) (c-is : c ≡ countsIn counts) (at : ℕ) (at-is : at ≡ placeOf call c free) (row : Row)
+      (row-is : row ≡ getD (rowsIn rows) at (freed 0)) (arm : ArmTo call row c (length rows / 16) store free ready owners pool t store′ free′ ready′ owners′ pool′) where
+    is-whole : Whole rows
+    unfolding fitsIn
+    is-whole = eqb-true (length rows % 16) 0 (and-left (eqb (length rows % 16) 0) (same (rowsIn rows)) (sym is ∙ fit))
+
+    is-same : same (rowsIn rows) ≡ true
+    unfolding fitsIn
+    is-same = and-right (eqb (length rows % 16) 0) (same (rowsIn rows)) (sym is ∙ fit)
+
+    pub carried : (r : Reply) (counts′ rows′ : List ℕ) → Put t at c counts rows r counts′ rows′ → CallsWhole call counts rows store free ready owners pool r counts′ rows′ store′ free′ ready′ owners′ pool′
+    carried r counts′ rows′ p = record {
+      whole = λ w. put-in-words call counts rows store free ready owners pool t store′ free′ ready′ owners′ pool′ c c-is at at-is row row-is (λ rs len found. arm rs len found (as-many rows store free ready owners pool rs len ∙ is-same)) r counts′ rows′ p;
+      cut = λ cut. absurd (cut is-whole);
+    }
+
+    -- no row is touched
+    pub carried-without : (r : Reply) (counts′ : List ℕ) → t .row ≡ row → Counted t c counts r counts′ → CallsWhole call counts rows store free ready owners pool r counts′ rows store′ free′ ready′ owners′ pool′
+    carried-without r counts′ same-row p = carried r counts′ rows (record {
+      counted = p;
+      turned-away = λ e. refl;
+      row-is = λ e. sym (ap (set (rowsIn rows) at) (same-row ∙ row-is) ∙ set-getD (rowsIn rows) at (freed 0));
+      others = λ i apart. refl;
+      long = refl;
+    })
+
+-- The same, as the functions' proofs cite it: of the lengths that were asked for.
+module _ {call : Call} {counts rows store free ready owners pool : List ℕ} {b : Bool} (is : b ≡ fitsIn rows store free ready owners pool) where
+  pub unlike : b ≡ false → CallsWhole call counts rows store free ready owners pool (turnedAway Unfit) counts rows store free ready owners pool
+  unlike e = turned-off call counts rows store free ready owners pool b is e
+
+  module _ (fit : b ≡ true) {c : Counts} (c-is : c ≡ countsIn counts) {at : ℕ} (at-is : at ≡ placeOf call c free) {row : Row} (row-is : row ≡ getD (rowsIn rows) at (freed 0)) {t : Touched} where
+    -- a call goes by its arm
+    pub armed : {store′ free′ ready′ owners′ pool′ : List ℕ} → ArmTo call row c (length rows / 16) store free ready owners pool t store′ free′ ready′ owners′ pool′
+        → {r : Reply} {counts′ rows′ : List ℕ} → Put t at c counts rows r counts′ rows′ → CallsWhole call counts rows store free ready owners pool r counts′ rows′ store′ free′ ready′ owners′ pool′
+    armed {store′} {free′} {ready′} {owners′} {pool′} arm {r} {counts′} {rows′} put =
+        carried call counts rows store free ready owners pool t store′ free′ ready′ owners′ pool′ b is fit c c-is at at-is row row-is arm r counts′ rows′ put
+
+    -- one that sets words of the store changes nothing else
+    pub marked : {store′ : List ℕ} → MarksTo call row store t store′ → {r : Reply} {counts′ rows′ : List ℕ} → Put t at c counts rows r counts′ rows′
+        → CallsWhole call counts rows store free ready owners pool r counts′ rows′ store′ free ready owners pool
+    marked sets put = armed (sets c (length rows / 16) free ready owners pool) put

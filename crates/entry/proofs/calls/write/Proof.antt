@@ -1,0 +1,44 @@
+-- `calls::write` meets its contract: the call is its arm's (Each).
+use borrow.Author.Tests.{not-true, not-false}
+use borrow.Author.Needs.{needs}
+use Rattle.entry.proofs.Each.{unlike, armed}
+use Rattle.entry.proofs.calls.write.Statement.{statement}
+use Rattle.entry.proofs.calls.write.Tie as tie
+
+returns : tie.Need-returns
+returns c = unlike (c .before .fits2 .ensures) (not-true _ (c .if1 .taken))
+
+returns-2 : tie.Need-returns-2
+returns-2 c =
+    let put = c .before .before in
+    let did = put .before .before .before .before .before in
+    let found = did .before .before .before .before in
+    let placed = found .before .before in
+    let counted = placed .before .before in
+    let left = counted .before .before in
+    armed (left .before .fits2 .ensures) (not-false _ (left .if1 .left)) (counted .counts-of .ensures) (placed .place .ensures) (found .row-at .ensures) (did .write .ensures _ _) (put .put-touched .ensures)
+
+pub write-spec : {M : Type 1} → statement M
+write-spec =
+    tie.close
+    (tie.spec
+    (λ c κs. search needs)
+    (λ c. search needs)
+    (λ c. search needs)
+    (λ c. search needs)
+    (λ c. search needs)
+    (λ c. search needs)
+    (λ c. search needs)
+    returns
+    (λ c κs. search needs)
+    (λ c κs. search needs)
+    (λ c κs. search needs)
+    (λ c κs. search needs)
+    (λ c κs. search needs)
+    (λ c. search needs)
+    (λ c. search needs)
+    (λ c. search needs)
+    (λ c. search needs)
+    (λ c. search needs)
+    (λ c. search needs)
+    returns-2)

@@ -1,2 +1,0 @@
--- Proofs shared by the functions of this crate.
-pub mod CardRuns

@@ -1,2 +1,0 @@
--- What the proofs of this crate's two functions share.
-pub mod Lending

@@ -1,0 +1,5 @@
+-- Proofs about the functions of src/.
+pub mod Bytes
+pub mod Rows
+pub mod Loose
+pub mod May

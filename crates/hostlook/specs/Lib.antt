@@ -1,1 +1,0 @@
--- This crate states nothing of its own: its contract cites what a lookup gives.

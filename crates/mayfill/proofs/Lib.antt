@@ -1,4 +1,0 @@
--- Proofs about the functions of src/.
-pub mod Rows
-pub mod Loose
-pub mod May

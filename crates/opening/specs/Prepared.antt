@@ -1,0 +1,23 @@
+-- What `prepare` leaves: an admitted opening writes the front of each part of the row memory but the rows, and replies with the depth; a refused
+-- one changes nothing and replies with 0. For the code: the reply that a host gets is the submitter's Open.
+use mathlib.Core.Path.{_≡_}
+use mathlib.Core.List.{List}
+use Prim.Native.Nat.{ℕ}
+use lib.ListN.{length}
+use Rattle.layout.specs.Pick.{pick}
+use Rattle.model.specs.declared.Opening.{Opening}
+use Rattle.model.specs.declared.Lengths.{Lengths}
+use Rattle.model.specs.Memory.{storeOpened, freeOpened, readyOpened, ownersOpened}
+use Rattle.model.specs.Opening.{opens}
+
+abbrev pub lengthsWith : ℕ → List ℕ → List ℕ → List ℕ → List ℕ → ℕ → Lengths
+lengthsWith rows store free ready owners pool =
+    record { rows = rows; store = length store; free = length free; ready = length ready; owners = length owners; pool = pool }
+
+pub record Prepared (o : Opening) (plan : List ℕ) (l : Lengths) (depth : ℕ)
+    (store free ready owners store′ free′ ready′ owners′ : List ℕ) : Type 0 where
+  pub depth-is : depth ≡ pick (opens o plan l) (o .depth) 0
+  pub store-is : store′ ≡ pick (opens o plan l) (storeOpened o plan l store) store
+  pub free-is : free′ ≡ pick (opens o plan l) (freeOpened (o .depth) free) free
+  pub ready-is : ready′ ≡ pick (opens o plan l) (readyOpened ready) ready
+  pub owners-is : owners′ ≡ pick (opens o plan l) (ownersOpened (o .buffers) owners) owners

@@ -1,4 +1,0 @@
--- What the proofs of this crate share.
-pub mod Laws
-pub mod Words
-pub mod Whole

@@ -1,0 +1,29 @@
+-- `calls::flushed` meets its contract: the row of its word is the one that fits, and its parts are the row's.
+use mathlib.Core.Path.{_∙_}
+use Rattle.parser.proofs.Table.{need-line}
+use borrow.Author.Needs.{needs}
+use Rattle.parser.proofs.calls.flushed.Statement.{statement}
+use Rattle.parser.proofs.calls.flushed.Tie as tie
+
+returns : tie.Need-returns
+returns c =
+    let fit = c .before in
+    let start = fit .before .before .before .before .before .before .before .before .before in
+    c .checked .ensures
+    ∙ rw (fit .both2 .ensures, fit .before .is-word .ensures, fit .before .before .before .both .ensures, fit .before .before .before .before .is-number .ensures, fit .before .before .before .before .before .are-numbers .ensures, fit .before .before .before .before .before .before .value-in2 .ensures, fit .before .before .before .before .before .before .before .value-in .ensures)
+    (need-line (start .args .text .now) (start .pre .0) (start .pre .1))
+
+pub flushed-spec : {M : Type 1} → statement M
+flushed-spec =
+    tie.close
+    (tie.spec
+    (λ c κs. search needs)
+    (λ c κs. search needs)
+    (λ c κs. search needs)
+    (λ c κs. search needs)
+    (λ c κs. search needs)
+    (λ c. search needs)
+    (λ c κs. search needs)
+    (λ c κs. search needs)
+    (λ c κs. search needs)
+    returns)

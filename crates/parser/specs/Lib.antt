@@ -1,0 +1,5 @@
+pub mod Values
+pub mod Said
+pub mod Asks
+pub mod Laws
+pub mod Openings

@@ -1,0 +1,97 @@
+// What optrun prints of a reply, and of the outcome that it may hold: document 01's fields and no more, so no buffer, no ticket and no receipt.
+ghost use mathlib.Core.Path.{_≡_};
+ghost use mathlib.Core.List.{[], _∷_, _++_};
+ghost use Prim.Native.Nat.{_+_, _≤_};
+ghost use lib.ListN.{length, take};
+ghost use Rattle.printer.specs.Parts.{fieldsOf, causeText, unknownWord, refusedText};
+ghost use Rattle.printer.specs.ShortOutcome.{shortOutcome};
+ghost use Rattle.printer.specs.ShortTook.{shortTook};
+ghost use Rattle.printer.specs.Short.{shortText};
+use completion::Completion;
+use completion::Outcome;
+use completion::Range;
+use completion::Reply;
+use domain::FirstCause;
+use domain::OsError;
+
+// Puts ` unknown START END OP ERR`.
+fn put_unknown(range: Range, cause: FirstCause, out: &mut [u8], at: usize) -> usize
+    requires { ⌜ at + 87 ≤ length (now out) ⌝ }
+    ensures { λ r. ⌜ (r ≤ at + 87) ×
+        ((length (now (out .exit)) ≡ length (now (out .entry))) ×
+        (take r (now (out .exit)) ≡ take at (now (out .entry)) ++
+        (fieldsOf unknownWord (range .start .0 ∷ range .end .0 ∷ []) ++ causeText cause))) ⌝ }
+{
+    let numbers = [range.start.0, range.end.0];
+    let ranged = crate::parts::put_fields(b" unknown", &numbers, out, at);
+    crate::causes::put_cause(cause, out, ranged)
+}
+
+// Puts what an operation came to.
+pub fn put_short(outcome: Outcome, out: &mut [u8], at: usize) -> usize
+    requires { ⌜ at + 87 ≤ length (now out) ⌝ }
+    ensures { λ r. ⌜ (r ≤ at + 87) ×
+        ((length (now (out .exit)) ≡ length (now (out .entry))) × (take r (now (out .exit)) ≡ take at (now (out .entry)) ++ shortOutcome outcome)) ⌝ }
+{
+    match outcome {
+        Outcome::Written(t) => crate::parts::put_need(b" written", t, t.need, out, at),
+        Outcome::Receipt(t, d) => crate::parts::put_need(b" receipt", t, d.need, out, at),
+        Outcome::Read { len } => crate::parts::put_read(len, out, at),
+        Outcome::Unknown(range, cause) => put_unknown(range, cause, out, at),
+        Outcome::Interrupted(range) => crate::parts::put_range(b" interrupted", range, out, at),
+        Outcome::Corruption(range) => crate::parts::put_range(b" media", range, out, at),
+        Outcome::Io { range, op: _, raw } => crate::parts::put_raw(b" io", range, raw, out, at),
+        Outcome::QueueFull(range) => crate::parts::put_range(b" full", range, out, at),
+        Outcome::Poisoned(cause) => crate::causes::put_poisoned(cause, out, at),
+    }
+}
+
+// `took TAG` and what the operation came to
+pub fn took_text(c: Completion, out: &mut [u8]) -> usize
+    requires { ⌜ 128 ≤ length (now out) ⌝ }
+    ensures { λ r. ⌜ (r ≤ 128) × (take r (now (out .exit)) ≡ shortTook c) ⌝ }
+{
+    let outcome = c.outcome;
+    let word = crate::bytes::put(b"took", out, 0);
+    let tagged = crate::bytes::put_spaced(c.tag, out, word);
+    let told = put_short(outcome, out, tagged);
+    crate::bytes::put(b"\n", out, told)
+}
+
+// A first piece refused.
+pub fn refused_text(range: Range, raw: OsError, out: &mut [u8]) -> usize
+    requires { ⌜ 128 ≤ length (now out) ⌝ }
+    ensures { λ r. ⌜ (r ≤ 128) × (take r (now (out .exit)) ≡ refusedText range raw ++ (10 ∷ [])) ⌝ }
+{
+    let told = crate::causes::put_refused(range, raw, out);
+    crate::bytes::put(b"\n", out, told)
+}
+
+// What optrun prints of a reply. The longest line is that of an operation that ended in an OS error: `took TAG io REGION START END ERR`, at most 113
+// bytes.
+pub fn short_text(reply: Reply, out: &mut [u8; 128]) -> usize
+    ensures { λ r. ⌜ (r ≤ 128) × (take r (now (out .exit)) ≡ shortText reply) ⌝ }
+{
+    match reply {
+        Reply::Piece {
+            qtag,
+            offset,
+            count,
+            buffer: _,
+        } => crate::lines::piece_text(qtag, offset.0, count, out),
+        Reply::No(refusal) => crate::lines::no_text(refusal, out),
+        Reply::Rejected {
+            range,
+            op: _,
+            raw,
+            buf: _,
+        } => refused_text(range, raw, out),
+        Reply::Done { qtag } => crate::lines::numbered_text(b"done", qtag, out),
+        Reply::Flush { qtag, need } => crate::parts::flush_text(qtag, need, out),
+        Reply::Took(c) => took_text(c, out),
+        Reply::None => crate::parts::word_text(b"none\n", out),
+        Reply::Ok => crate::parts::word_text(b"ok\n", out),
+        Reply::Writes(w) => crate::lines::numbered_text(b"writes", crate::parts::bit_of(w), out),
+        Reply::Mark(m) => crate::lines::numbered_text(b"mark", m, out),
+    }
+}

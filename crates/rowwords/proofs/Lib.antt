@@ -1,2 +1,0 @@
--- Proofs about the definitions of specs/, which the functions' proofs cite.
-pub mod Laws

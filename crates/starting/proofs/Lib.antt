@@ -1,3 +1,0 @@
--- Proofs about the functions of src/, and the laws.
-pub mod Starting
-pub mod Laws

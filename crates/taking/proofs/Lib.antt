@@ -1,3 +1,0 @@
--- Proofs about the definitions of specs/.
-pub mod Owners
-pub mod Taking

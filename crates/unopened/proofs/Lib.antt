@@ -1,4 +1,0 @@
--- Proofs about the functions of src/.
-pub mod BeforeLines
-pub mod PlannedLines
-pub mod StartLines
