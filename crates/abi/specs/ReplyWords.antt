@@ -20,7 +20,7 @@ use mathlib.Core.List.{List, [], _∷_, _++_}
 use Prim.Native.Nat.{ℕ}
 use lib.ListN.{take, replicate}
 use Rattle.completion.specs.declared.Reply.{Reply}
-use Rattle.completion.specs.declared.Reply.the-variants.{Piece, No as turnedAway, Rejected, Done, Flush, Took, None, Ok, Writes, Mark}
+use Rattle.completion.specs.declared.Reply.the-variants as Reply
 use Rattle.completion.specs.Numbers.{number, Values, Values.nothing, Values.region, Values.range, Values.cause, values}
 use Rattle.model.specs.Memory.{opWord, hasWord, rawWord, bufferWords, completionWords, word01}
 
@@ -36,16 +36,16 @@ valuesWords (range id start end) = 2 ∷ id ∷ start .0 ∷ end .0 ∷ []
 valuesWords (cause f) = 3 ∷ opWord (f .op) ∷ hasWord (f .raw) ∷ rawWord (f .raw) ∷ []
 
 unfoldable pub replyWords : Reply → List ℕ
-replyWords (Piece qtag offset count buffer) = filled (1 ∷ qtag ∷ offset .0 ∷ count ∷ buffer ∷ [])
-replyWords (turnedAway f) = filled (2 ∷ number f ∷ valuesWords (values f))
-replyWords (Rejected r op raw buf) = filled (3 ∷ r .region ∷ r .start .0 ∷ r .end .0 ∷ opWord op ∷ hasWord raw ∷ rawWord raw ∷ bufferWords buf)
-replyWords (Done qtag) = filled (4 ∷ qtag ∷ [])
-replyWords (Flush qtag need) = filled (5 ∷ qtag ∷ need ∷ [])
-replyWords (Took c) = filled (6 ∷ completionWords c)
-replyWords None = filled (7 ∷ [])
-replyWords Ok = filled (8 ∷ [])
-replyWords (Writes on) = filled (9 ∷ word01 on ∷ [])
-replyWords (Mark n) = filled (10 ∷ n ∷ [])
+replyWords (Reply.Piece qtag offset count buffer) = filled (1 ∷ qtag ∷ offset .0 ∷ count ∷ buffer ∷ [])
+replyWords (Reply.No f) = filled (2 ∷ number f ∷ valuesWords (values f))
+replyWords (Reply.Rejected r op raw buf) = filled (3 ∷ r .region ∷ r .start .0 ∷ r .end .0 ∷ opWord op ∷ hasWord raw ∷ rawWord raw ∷ bufferWords buf)
+replyWords (Reply.Done qtag) = filled (4 ∷ qtag ∷ [])
+replyWords (Reply.Flush qtag need) = filled (5 ∷ qtag ∷ need ∷ [])
+replyWords (Reply.Took c) = filled (6 ∷ completionWords c)
+replyWords Reply.None = filled (7 ∷ [])
+replyWords Reply.Ok = filled (8 ∷ [])
+replyWords (Reply.Writes on) = filled (9 ∷ word01 on ∷ [])
+replyWords (Reply.Mark n) = filled (10 ∷ n ∷ [])
 
 -- a code that names nothing
 unfoldable pub unknownWords : List ℕ

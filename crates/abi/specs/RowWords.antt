@@ -13,11 +13,9 @@ use lib.Dec.{eqb, ltb}
 use Rattle.layout.specs.Pick.{pick}
 use Rattle.regionmap.specs.Words.{positionOf}
 use Rattle.completion.specs.declared.WriteTicket.{WriteTicket}
-use Rattle.model.specs.declared.Awaits.{Awaits}
-use Rattle.model.specs.declared.Awaits.the-variants.{Nothing, Piece, Flush}
-use Rattle.model.specs.declared.Kind.the-variants.{Page, Read}
-use Rattle.model.specs.declared.Split.{Split}
-use Rattle.model.specs.declared.Row.{Row}
+use Rattle.model.specs.declared.{Awaits.Awaits, Split.Split, Row.Row}
+use Rattle.model.specs.declared.Awaits.the-variants as Awaits
+use Rattle.model.specs.declared.Kind.the-variants as Kind
 use Rattle.model.specs.State.{freed}
 use Rattle.model.specs.Memory.{flag, word01, over}
 use Rattle.ring.specs.Queue.{placed}
@@ -41,9 +39,10 @@ ticketIn w =
 
 unfoldable pub awaitsIn : List ℕ → Awaits
 awaitsIn w =
-    pick (eqb (getD w 6 0) 0) Nothing
-    (pick (eqb (getD w 6 0) 1) (Piece (Page (positionOf (getD w 7 0)) (positionOf (getD w 8 0))) (splitIn w))
-    (pick (eqb (getD w 6 0) 2) (Piece (Read (positionOf (getD w 7 0)) (positionOf (getD w 8 0))) (splitIn w)) (Flush (ticketIn w))))
+    pick (eqb (getD w 6 0) 0) Awaits.Nothing
+    (pick (eqb (getD w 6 0) 1) (Awaits.Piece (Kind.Page (positionOf (getD w 7 0)) (positionOf (getD w 8 0))) (splitIn w))
+    (pick (eqb (getD w 6 0) 2) (Awaits.Piece (Kind.Read (positionOf (getD w 7 0)) (positionOf (getD w 8 0))) (splitIn w))
+    (Awaits.Flush (ticketIn w))))
 
 unfoldable pub rowIn : List ℕ → Row
 rowIn w =
@@ -61,19 +60,19 @@ rowIn w =
 
 -- words 6 to 15
 unfoldable pub awaitsWords : Awaits → List ℕ
-awaitsWords Nothing = 0 ∷ 0 ∷ 0 ∷ 0 ∷ 0 ∷ 0 ∷ 0 ∷ 0 ∷ 0 ∷ 0 ∷ []
-awaitsWords (Piece (Page a b) s) = 1 ∷ a .0 ∷ b .0 ∷ s .total ∷ s .done ∷ 0 ∷ 0 ∷ 0 ∷ 0 ∷ 0 ∷ []
-awaitsWords (Piece (Read a b) s) = 2 ∷ a .0 ∷ b .0 ∷ s .total ∷ s .done ∷ 0 ∷ 0 ∷ 0 ∷ 0 ∷ 0 ∷ []
-awaitsWords (Flush t) = 3 ∷ t .start .0 ∷ t .end .0 ∷ t .volume ∷ t .region ∷ t .generation ∷ t .need ∷ t .epoch ∷ 0 ∷ 0 ∷ []
+awaitsWords Awaits.Nothing = 0 ∷ 0 ∷ 0 ∷ 0 ∷ 0 ∷ 0 ∷ 0 ∷ 0 ∷ 0 ∷ 0 ∷ []
+awaitsWords (Awaits.Piece (Kind.Page a b) s) = 1 ∷ a .0 ∷ b .0 ∷ s .total ∷ s .done ∷ 0 ∷ 0 ∷ 0 ∷ 0 ∷ 0 ∷ []
+awaitsWords (Awaits.Piece (Kind.Read a b) s) = 2 ∷ a .0 ∷ b .0 ∷ s .total ∷ s .done ∷ 0 ∷ 0 ∷ 0 ∷ 0 ∷ 0 ∷ []
+awaitsWords (Awaits.Flush t) = 3 ∷ t .start .0 ∷ t .end .0 ∷ t .volume ∷ t .region ∷ t .generation ∷ t .need ∷ t .epoch ∷ 0 ∷ 0 ∷ []
 
 unfoldable pub wordsOf : Row → List ℕ
 wordsOf r = r .generation ∷ r .tag ∷ r .seq ∷ r .handle ∷ r .buffer ∷ word01 (r .durable) ∷ awaitsWords (r .awaits)
 
 -- a row lies in words: its generations have 32 bits
 unfoldable pub AwaitsFits : Awaits → Type 0
-AwaitsFits Nothing = Unit {0}
-AwaitsFits (Piece k s) = Unit {0}
-AwaitsFits (Flush t) = t .generation < 2 ^ 32
+AwaitsFits Awaits.Nothing = Unit {0}
+AwaitsFits (Awaits.Piece k s) = Unit {0}
+AwaitsFits (Awaits.Flush t) = t .generation < 2 ^ 32
 
 pub record RowFits (r : Row) : Type 0 where
   pub generation : r .generation < 2 ^ 32

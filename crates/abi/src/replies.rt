@@ -2,7 +2,6 @@
 ghost use mathlib.Core.Path.{_≡_};
 ghost use mathlib.Core.List.{[], _∷_};
 ghost use Rattle.completion.specs.Told.{toldValues};
-ghost use Rattle.completion.specs.declared.Reply.the-variants.{No, Rejected, Took};
 ghost use Rattle.abi.specs.ReplyWords.{filled, valuesWords, replyWords, unknownWords};
 use completion::Buffer;
 use completion::Completion;
@@ -59,7 +58,7 @@ fn told_words(t: Told) -> [u64; 4]
 
 // A call that is turned away: document 01's number, and what it tells.
 fn away_words(f: Refusal) -> [u64; 17]
-    ensures { λ w. ⌜ w ≡ replyWords (No f) ⌝ }
+    ensures { λ w. ⌜ w ≡ replyWords (Reply.No f) ⌝ }
 {
     let n = completion::refusals::number_of(f);
     let t = told_words(completion::refusals::told_of(f));
@@ -86,7 +85,7 @@ fn away_words(f: Refusal) -> [u64; 17]
 
 // A first piece that is refused.
 fn rejected_words(r: Range, op: Op, raw: OsError, buf: Buffer) -> [u64; 17]
-    ensures { λ w. ⌜ w ≡ replyWords (Rejected r op raw buf) ⌝ }
+    ensures { λ w. ⌜ w ≡ replyWords (Reply.Rejected r op raw buf) ⌝ }
 {
     let o = memory::causes::op_word(op);
     let h = memory::causes::has_word(raw);
@@ -135,7 +134,7 @@ fn rejected_words(r: Range, op: Op, raw: OsError, buf: Buffer) -> [u64; 17]
 
 // A completion that is taken.
 fn took_words(c: Completion) -> [u64; 17]
-    ensures { λ w. ⌜ w ≡ replyWords (Took c) ⌝ }
+    ensures { λ w. ⌜ w ≡ replyWords (Reply.Took c) ⌝ }
 {
     let w = ring::encode::words_of(c);
     [
@@ -182,7 +181,7 @@ pub fn put_whole(r: Reply, out: &mut [u64; 17])
         Reply::Took(c) => *out = took_words(c),
         Reply::None => *out = five(7, 0, 0, 0, 0),
         Reply::Ok => *out = five(8, 0, 0, 0, 0),
-        Reply::Writes(on) => *out = five(9, crate::rows::word(on), 0, 0, 0),
+        Reply::Writes(on) => *out = five(9, memory::flag_word(on), 0, 0, 0),
         Reply::Mark(n) => *out = five(10, n, 0, 0, 0),
     }
 }

@@ -5,7 +5,7 @@ ghost use mathlib.Core.List.{[], _∷_};
 ghost use Prim.Native.Nat.{_/_, _≤_, min};
 ghost use lib.ListN.{length, getD, set};
 ghost use Rattle.model.specs.State.{freed};
-ghost use Rattle.model.specs.Memory.{word01, rowsOpened};
+ghost use Rattle.model.specs.Memory.{rowsOpened};
 ghost use Rattle.abi.specs.RowWords.{awaitsIn, rowIn, awaitsWords, wordsOf, AwaitsFits, RowFits, rowsIn, rowPut, rowsCleared};
 use completion::WriteTicket;
 use model::Awaits;
@@ -113,20 +113,13 @@ fn awaits_words(awaits: Awaits) -> [u64; 10]
     }
 }
 
-// A flag as a word.
-pub(crate) fn word(b: bool) -> u64
-    ensures { λ r. ⌜ r ≡ word01 b ⌝ }
-{
-    if b { 1 } else { 0 }
-}
-
 // The 16 words of a row, which lies in them.
 fn words_of(row: Row) -> [u64; 16]
     ensures { λ w. ⌜ (w ≡ wordsOf row) × RowFits row ⌝ }
 {
     let awaits = row.awaits;
     let a = awaits_words(awaits);
-    let durable = word(row.durable);
+    let durable = memory::flag_word(row.durable);
     [
         row.generation as u64,
         row.tag,
@@ -164,6 +157,6 @@ pub fn clear(words: &mut [u64], depth: usize)
     ensures { λ _. ⌜ (rowsIn (now (words .exit)) ≡ rowsOpened (min depth (length (rowsIn (now (words .entry))))) (rowsIn (now (words .entry)))) ×
         (now (words .exit) ≡ rowsCleared (min depth (length (now (words .entry)) / 16)) (now (words .entry))) ⌝ }
 {
-    let n = optable::smaller(depth, words.len() / 16);
+    let n = layout::lesser(depth, words.len() / 16);
     memory::fill::zeros(words, 16 * n);
 }

@@ -31,7 +31,7 @@ use Rattle.optable.specs.declared.touched.Touched.{Touched}
 use Rattle.optable.specs.Called.{lentOf, awayWith, Beyond, CallsTo, placeOf}
 use Rattle.memory.specs.declared.liveregion.LiveRegion.{LiveRegion}
 use Rattle.memory.specs.Live.{InStore, liveOf, regionOf}
-use Rattle.submission.proofs.Found.{in-store, region-is}
+use Rattle.memory.proofs.Found.{in-store, region-is}
 use Rattle.marks.proofs.Calling.{enough, stepped}
 use Rattle.settle.specs.declared.Finished.{Finished}
 use Rattle.settle.specs.declared.Finished.the-variants.{Away}
@@ -142,7 +142,7 @@ module _ (c : Counts) (rows : List Row) (store free ready owners pool : List ℕ
         region = there .region
 
         region-same : g ≡ liveOf (regionAt s (row .handle))
-        region-same = g-is (in-store c rows store free ready owners pool i same (row .handle) region) ∙ ap liveOf (sym (region-is c rows store free ready owners pool i same (row .handle) region))
+        region-same = g-is (in-store c (lentOf rows store free ready owners pool) i same (row .handle) region) ∙ ap liveOf (sym (region-is c (lentOf rows store free ready owners pool) i same (row .handle) region))
 
         plan-same : planWith g (regionAt s (row .handle) .map) ≡ planOf (regionAt s (row .handle))
         plan-same = plan-is c rows store free ready owners pool i same t row found below named small g region-same

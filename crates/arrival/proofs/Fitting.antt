@@ -7,7 +7,7 @@ use native.Mathlib.Nat.{mod-eq-of-lt}
 use native.Mathlib.Omega.{arith}
 use Rattle.regionmap.specs.declared.FoundPiece.{FoundPiece}
 use Rattle.regionmap.specs.Map.{Map}
-use Rattle.regionmap.specs.Words.{wrap64}
+use Rattle.regionmap.specs.Found.{wrap64}
 use Rattle.regionmap.proofs.Laws.{map-laws}
 use Rattle.model.specs.declared.Counts.{Counts}
 use Rattle.model.specs.declared.Kind.{Kind}
@@ -18,13 +18,13 @@ use Rattle.model.specs.declared.Awaits.the-variants.{Nothing, Piece, Flush}
 use Rattle.model.specs.declared.Row.{Row}
 use Rattle.model.specs.State.{State}
 use Rattle.model.specs.Memory.{lengthsOf, sameLengths, settingsIn, stateIn}
-use Rattle.step.specs.Questions.{regionAt}
-use Rattle.step.specs.Rules.{firstOf, pieceOf, pieceLength, rangeEnd}
+use Rattle.step.specs.Questions.{byteAt, regionAt}
+use Rattle.step.specs.Rules.{leftOf, firstOf, pieceOf, pieceLength, rangeEnd}
 use Rattle.step.specs.Sound.{Sound, SplitFits}
 use Rattle.optable.specs.Called.{lentOf}
 use Rattle.memory.specs.declared.liveregion.LiveRegion.{LiveRegion}
-use Rattle.submission.specs.Piece.{PieceIn}
-use Rattle.submission.proofs.Found.{piece-there}
+use Rattle.memory.specs.Piece.{PieceIn}
+use Rattle.memory.proofs.Found.{piece-there}
 use Rattle.settle.specs.Finished.{planWith, PieceFits}
 use Rattle.arrival.specs.UnderWay.{PieceUnderWay, UnderWay}
 use Rattle.arrival.proofs.Replies.{starts-inside}
@@ -54,8 +54,8 @@ module _ (c : Counts) (rows : List Row) (store free ready owners pool : List ℕ
         → (n ≡ pieceLength (planWith g m) k sp) × (sp .done + n < 2 ^ 64) × (g .generation < 2 ^ 32)
     unfolding pieceLength pieceOf planWith wrap64
     piece-fits k sp split in-data small u short =
-        let p = firstOf k .0 + sp .done in
-        let left = sp .total - sp .done in
+        let p = byteAt (firstOf k .0) (sp .done) in
+        let left = leftOf sp in
         let lawful = i .each h among .lawful in
         let within = lawful .within in
         let inside = starts-inside k sp split in
@@ -64,7 +64,7 @@ module _ (c : Counts) (rows : List Row) (store free ready owners pool : List ℕ
         let on-data : p < m .dataLength = omega (arith, inside, in-data) in
         let wraps : wrap64 p ≡ p = mod-eq-of-lt (omega (arith, inside, small)) in
         let is = subst (λ (x : ℕ). PieceIn store h x left (u .found)) wraps (u .is) in
-        let e = u .length ∙ ap (λ (x : FoundPiece). x .count) (piece-there c rows store free ready owners pool i same h region p left (omega (arith, on-data, within)) (u .found) is) in
+        let e = u .length ∙ ap (λ (x : FoundPiece). x .count) (piece-there c (lentOf rows store free ready owners pool) i same h region p left (omega (arith, on-data, within)) (u .found) is) in
         let most = map-laws .one-piece m lawful p left (omega (arith, some)) on-data .most in
         (e, omega (arith, e, most, some, end, small), short)
 

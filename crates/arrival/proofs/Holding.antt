@@ -17,7 +17,7 @@ use Rattle.step.proofs.Buffers.{in-pool}
 use Rattle.step.proofs.Memory.{lengths-are}
 use Rattle.ring.specs.Queue.{Ring}
 use Rattle.optable.specs.Called.{lentOf}
-use Rattle.submission.proofs.Found.{free-long}
+use Rattle.memory.proofs.Found.{free-long}
 use Rattle.marks.proofs.Calling.{enough}
 use Rattle.arrival.proofs.Turned.{row-at}
 use Rattle.arrival.proofs.Settling.{Held}
@@ -71,7 +71,7 @@ module _ (c : Counts) (rows : List Row) (store free ready owners pool : List ℕ
     among = in-table .buffer;
     some = some-live s i (rowOf t) below-depth (named-live s i t named-at);
     most = i .most;
-    long = free-long c rows store free ready owners pool i same;
+    long = free-long c (lentOf rows store free ready owners pool) i same;
     words = enough (lengthsOf l) store same;
     ring = ring;
     fits = in-pool s i (row .buffer) (in-table .buffer) pool (i .pool);

@@ -2,20 +2,21 @@
 use mathlib.Core.Path.{_≡_, refl, sym, subst}
 use mathlib.Core.Bool.{Bool, _&&_}
 use mathlib.Core.List.{List, [], _∷_}
-use Prim.Native.Nat.{ℕ, _+_, _-_}
+use Prim.Native.Nat.{ℕ, _-_}
 use types.Run.{OneOf, miss}
 use denote.Enum.Declared.{tagOf}
 use Rattle.regionmap.specs.declared.FoundPiece.{FoundPiece}
-use Rattle.regionmap.specs.Words.{wrap64}
+use Rattle.regionmap.specs.Found.{wrap64}
 use Rattle.model.specs.declared.Kind.{Kind}
 use Rattle.model.specs.declared.Split.{Split}
 use Rattle.model.specs.declared.Awaits.{Awaits}
 use Rattle.model.specs.declared.Awaits.the-variants.{Nothing, Piece, Flush}
 use Rattle.model.proofs.Awaits.{the-type}
-use Rattle.step.specs.Rules.{firstOf}
+use Rattle.step.specs.Rules.{leftOf, firstOf}
 use Rattle.step.specs.Step.{isLive}
-use Rattle.submission.specs.Piece.{PieceIn}
+use Rattle.memory.specs.Piece.{PieceIn}
 use Rattle.arrival.specs.UnderWay.{UnderWay}
+use Rattle.step.specs.Questions.{byteAt}
 
 -- what is awaited, and what is no piece, by their numbers
 abbrev something : List ℕ
@@ -33,7 +34,7 @@ awaited (Flush t) current w = refl
 
 module _ (store : List ℕ) (h : ℕ) where
   -- the piece that was found is the one under way
-  pub piece-under-way : (a : Awaits) (k : Kind) (s : Split) → a ≡ Piece k s → (found : FoundPiece) → PieceIn store h (wrap64 (firstOf k .0 + s .done)) (s .total - s .done) found
+  pub piece-under-way : (a : Awaits) (k : Kind) (s : Split) → a ≡ Piece k s → (found : FoundPiece) → PieceIn store h (wrap64 (byteAt (firstOf k .0) (s .done))) (leftOf s) found
       → UnderWay store h a (found .count)
   unfolding UnderWay
   piece-under-way a k s e found is = subst (λ (x : Awaits). UnderWay store h x (found .count)) (sym e) (record { found = found; is = is; length = refl })

@@ -2,10 +2,10 @@
 use mathlib.Core.Path.{_≡_, _∙_, subst}
 use mathlib.Core.Bool.{true}
 use mathlib.Core.List.{List}
-use Prim.Native.Nat.{ℕ, _+_, _-_, _<_, _^_}
+use Prim.Native.Nat.{ℕ, _-_, _<_, _^_}
 use native.Mathlib.Nat.{mod-eq-of-lt}
 use native.Mathlib.Omega.{arith}
-use Rattle.regionmap.specs.Words.{wrap64}
+use Rattle.regionmap.specs.Found.{wrap64}
 use Rattle.completion.specs.declared.Reply.{Reply}
 use Rattle.completion.specs.declared.Reply.the-variants.{Piece as piece}
 use Rattle.model.specs.declared.Counts.{Counts}
@@ -17,18 +17,18 @@ use Rattle.model.specs.declared.Awaits.the-variants.{Nothing, Piece, Flush}
 use Rattle.model.specs.declared.Row.{Row}
 use Rattle.model.specs.State.{State}
 use Rattle.model.specs.Memory.{lengthsOf, sameLengths, settingsIn, stateIn}
-use Rattle.step.specs.Questions.{regionAt}
-use Rattle.step.specs.Rules.{firstOf, pieceOf, pieceLength, rangeEnd}
+use Rattle.step.specs.Questions.{byteAt, regionAt}
+use Rattle.step.specs.Rules.{leftOf, firstOf, pieceOf, pieceLength, rangeEnd}
 use Rattle.step.specs.Step.{planOf, asksFor}
 use Rattle.step.specs.Sound.{Sound, InTable, SplitFits}
 use Rattle.step.proofs.Fates.{Onward}
 use Rattle.optable.specs.Called.{lentOf}
-use Rattle.submission.specs.Piece.{PieceIn}
-use Rattle.submission.proofs.Found.{piece-there}
+use Rattle.memory.specs.Piece.{PieceIn}
+use Rattle.memory.proofs.Found.{piece-there}
 use Rattle.arrival.specs.Carried.{AsksPiece, AsksFor}
 
 -- where the next piece starts there are bytes left of the range
-pub starts-inside : (k : Kind) (s : Split) → SplitFits (Piece k s) → firstOf k .0 + s .done < rangeEnd (Piece k s)
+pub starts-inside : (k : Kind) (s : Split) → SplitFits (Piece k s) → byteAt (firstOf k .0) (s .done) < rangeEnd (Piece k s)
 unfolding SplitFits rangeEnd firstOf
 starts-inside (Page a b) s f = let e = f .0 in let lt = f .1 in omega (arith, e, lt)
 starts-inside (Read a b) s f = let e = f .0 in let lt = f .1 in omega (arith, e, lt)
@@ -45,7 +45,7 @@ module _ (c : Counts) (rows : List Row) (store free ready owners pool : List ℕ
 
     module _ (k : Kind) (sp : Split) (on : Onward (s .settings) (regionAt s (row .handle)) (row .awaits) (Piece k sp)) where
       abbrev p : ℕ
-      p = firstOf k .0 + sp .done
+      p = byteAt (firstOf k .0) (sp .done)
 
       far : p < rangeEnd (row .awaits)
       far = let inside = starts-inside k sp (on .split (in-table .split)) in let end = on .end in omega (arith, inside, end)
@@ -64,8 +64,8 @@ module _ (c : Counts) (rows : List Row) (store free ready owners pool : List ℕ
       piece-asked : (reply : Reply) → AsksPiece store row t k sp reply → reply ≡ asksFor (planOf (regionAt s (row .handle))) t (row .buffer) (Piece k sp)
       unfolding asksFor pieceLength pieceOf planOf
       piece-asked reply asks =
-          let is = subst (λ (x : ℕ). PieceIn store (row .handle) x (sp .total - sp .done) (asks .found)) wraps (asks .is) in
-          let e = piece-there c rows store free ready owners pool i same (row .handle) region p (sp .total - sp .done) on-map (asks .found) is in
+          let is = subst (λ (x : ℕ). PieceIn store (row .handle) x (leftOf sp) (asks .found)) wraps (asks .is) in
+          let e = piece-there c (lentOf rows store free ready owners pool) i same (row .handle) region p (leftOf sp) on-map (asks .found) is in
           asks .reply ∙ (λ j. piece t (e j .offset) (e j .count) (row .buffer))
 
     pub asked : (a : Awaits) → Onward (s .settings) (regionAt s (row .handle)) (row .awaits) a → (reply : Reply) → AsksFor store row t a reply

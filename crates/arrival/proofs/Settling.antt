@@ -7,7 +7,7 @@ use native.Mathlib.Nat.{mod-eq-of-lt}
 use native.Mathlib.Omega.{arith}
 use lib.ListN.{length, getD, set, take, drop}
 use lib.Seq.{take-set-lt}
-use Rattle.regionmap.specs.Words.{wrap64}
+use Rattle.regionmap.specs.Found.{wrap64}
 use Rattle.iobuf.specs.Turn.{stretch, withStretch}
 use Rattle.iobuf.specs.TurnLaws.{Fits}
 use Rattle.iobuf.proofs.Laws.{turn-laws}

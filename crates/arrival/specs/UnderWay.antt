@@ -7,25 +7,20 @@ use lib.ListN.{length}
 use lib.Dec.{ltb}
 use Rattle.regionmap.specs.declared.FoundPiece.{FoundPiece}
 use Rattle.regionmap.specs.Map.{Map}
-use Rattle.regionmap.specs.Words.{wrap64}
+use Rattle.regionmap.specs.Found.{wrap64}
 use Rattle.domain.specs.declared.Poisoned.{Poisoned}
-use Rattle.platform.specs.declared.Answer.{Answer}
-use Rattle.platform.specs.declared.Flushed.{Flushed}
-use Rattle.completion.specs.declared.Refusal.the-variants.{UnknownTag}
-use Rattle.model.specs.declared.Opening.{Opening}
-use Rattle.model.specs.declared.Kind.{Kind}
-use Rattle.model.specs.declared.Split.{Split}
-use Rattle.model.specs.declared.Awaits.{Awaits}
-use Rattle.model.specs.declared.Awaits.the-variants.{Nothing, Piece, Flush}
-use Rattle.model.specs.declared.Row.{Row}
-use Rattle.model.specs.Opening.{Plan}
+use Rattle.platform.specs.declared.{Answer.Answer, Flushed.Flushed}
+use Rattle.completion.specs.declared.Refusal.the-variants as Refusal
+use Rattle.model.specs.declared.{Opening.Opening, Kind.Kind, Split.Split, Awaits.Awaits, Row.Row}
+use Rattle.model.specs.declared.Awaits.the-variants as Awaits
+use Rattle.model.specs.Opening.{Plan, HEAD}
 use Rattle.model.specs.Memory.{poisonIn}
 use Rattle.step.specs.Rules.{Input.answered, Input.flushed, firstOf, rules}
 use Rattle.step.specs.Step.{rowOf, names}
 use Rattle.memory.specs.declared.liveregion.LiveRegion.{LiveRegion}
-use Rattle.submission.specs.Piece.{PieceIn}
+use Rattle.memory.specs.Piece.{PieceIn}
 use Rattle.settle.specs.declared.Finished.{Finished}
-use Rattle.settle.specs.declared.Finished.the-variants.{Away}
+use Rattle.settle.specs.declared.Finished.the-variants as Finished
 use Rattle.settle.specs.Finished.{planWith, PieceFits, Tells}
 
 pub record PieceUnderWay (store : List ℕ) (h : ℕ) (k : Kind) (s : Split) (n : ℕ) : Type 0 where
@@ -34,9 +29,9 @@ pub record PieceUnderWay (store : List ℕ) (h : ℕ) (k : Kind) (s : Split) (n 
   pub length : n ≡ found .count
 
 unfoldable pub UnderWay : List ℕ → ℕ → Awaits → ℕ → Type 0
-UnderWay store h Nothing n = n ≡ 0
-UnderWay store h (Piece k s) n = PieceUnderWay store h k s n
-UnderWay store h (Flush t) n = n ≡ 0
+UnderWay store h Awaits.Nothing n = n ≡ 0
+UnderWay store h (Awaits.Piece k s) n = PieceUnderWay store h k s n
+UnderWay store h (Awaits.Flush t) n = n ≡ 0
 
 -- a tag that names a row of the table: one within the depth, live, with the tag's generation
 unfoldable pub knownAs : Opening → Row → ℕ → Bool
@@ -47,7 +42,7 @@ knownAs o row t = ltb (rowOf t) (o .depth) && names row t
 pub record AnswerIn (o : Opening) (g : LiveRegion) (row : Row) (answer : Answer) (back : Bool) (flushes : ℕ)
     (store : List ℕ) (f : Finished) : Type 0 where
   pub first : Poisoned
-  pub first-is : 48 ≤ length store → first ≡ poisonIn store
+  pub first-is : HEAD ≤ length store → first ≡ poisonIn store
   pub piece : ℕ
   pub under-way : UnderWay store (row .handle) (row .awaits) piece
   pub tells : (m : Map) → PieceFits g m piece (row .awaits)
@@ -55,10 +50,10 @@ pub record AnswerIn (o : Opening) (g : LiveRegion) (row : Row) (answer : Answer)
 
 abbrev pub FinishedIn : ℕ → Opening → LiveRegion → Row → Answer → Bool → ℕ → List ℕ → Finished → Type 0
 FinishedIn t o g row answer back flushes store f =
-    (knownAs o row t ≡ false → f ≡ Away UnknownTag) × (knownAs o row t ≡ true → AnswerIn o g row answer back flushes store f)
+    (knownAs o row t ≡ false → f ≡ Finished.Away Refusal.UnknownTag) × (knownAs o row t ≡ true → AnswerIn o g row answer back flushes store f)
 
 -- .. and of a flush result
 abbrev pub FlushedIn : ℕ → Opening → Row → Flushed → Finished → Type 0
 FlushedIn t o row result f =
-    (knownAs o row t ≡ false → f ≡ Away UnknownTag)
+    (knownAs o row t ≡ false → f ≡ Finished.Away Refusal.UnknownTag)
     × (knownAs o row t ≡ true → (g : Plan) (forced : Bool) (first : Poisoned) → Tells f (λ bytes. rules o g forced first row bytes (flushed result)))

@@ -3,12 +3,11 @@ ghost use mathlib.Core.Path.{_≡_};
 ghost use mathlib.Core.List.{List};
 ghost use Prim.Native.Nat.{ℕ};
 ghost use lib.ListN.{set};
-ghost use Rattle.completion.specs.declared.Reply.the-variants.{Rejected as rejectedReply};
 ghost use Rattle.model.specs.Opening.{Plan};
 ghost use Rattle.step.specs.Rules.{rangeOf, opOf};
 ghost use Rattle.step.specs.Step.{rowOf, rejection as rejectionOf};
-ghost use Rattle.settle.specs.declared.Finished.the-variants.{Rejected as rejected};
 ghost use Rattle.arrival.specs.Carried.{pushed, ownerWord, TouchedBy};
+ghost use Rattle.settle.specs.declared.Finished.the-variants as Finished;
 use completion::Buffer;
 use completion::Range;
 use completion::Refusal;
@@ -24,7 +23,7 @@ use optable::touched::Touched;
 
 // The reply to a refused first piece: the host gets Io or QueueFull, the range, and its buffer.
 fn reject(id: u64, kind: Kind, raw: OsError, buf: Buffer) -> Reply
-    ensures { λ r. ⌜ ((g : Plan) → g .id ≡ id → r ≡ rejectedReply (rangeOf g kind) (opOf kind) raw buf) ⌝ }
+    ensures { λ r. ⌜ ((g : Plan) → g .id ≡ id → r ≡ Reply.Rejected (rangeOf g kind) (opOf kind) raw buf) ⌝ }
 {
     match kind {
         Kind::Page { start, end } => Reply::Rejected {
@@ -71,7 +70,7 @@ pub fn abort(
     free: &mut [u64],
     owners: &mut [u64],
 ) -> Touched
-    ensures { λ r. ⌜ ((store : List ℕ) → TouchedBy (rejected raw buf) qtag row g store r)
+    ensures { λ r. ⌜ ((store : List ℕ) → TouchedBy (Finished.Rejected raw buf) qtag row g store r)
         × (now (free .exit) ≡ pushed live (rowOf qtag) (now (free .entry)))
         × (now (owners .exit) ≡ set (now (owners .entry)) (row .buffer) (ownerWord 0 buf)) ⌝ }
 {

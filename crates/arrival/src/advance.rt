@@ -1,14 +1,13 @@
 // An operation goes on: its buffer's bytes turn, and it awaits its next piece or its flush (store-io's optable.rs: finish).
 ghost use mathlib.Core.Path.{_≡_};
 ghost use Prim.Native.Nat.{_+_, _-_};
-ghost use Rattle.model.specs.declared.Awaits.the-variants.{Piece as awaitsPiece};
 ghost use Rattle.memory.specs.declared.liveregion.LiveRegion.{LiveRegion};
-ghost use Rattle.regionmap.specs.Words.{wrap64};
-ghost use Rattle.submission.specs.Piece.{PieceIn};
+ghost use Rattle.regionmap.specs.Found.{wrap64};
+ghost use Rattle.memory.specs.Piece.{PieceIn};
 ghost use Rattle.step.specs.Rules.{firstOf};
 ghost use Rattle.step.specs.Step.{awaitsNow};
-ghost use Rattle.settle.specs.declared.Finished.the-variants.{Next as next};
 ghost use Rattle.arrival.specs.Carried.{turnedPool, AsksFor, TouchedBy};
+ghost use Rattle.settle.specs.declared.Finished.the-variants as Finished;
 use completion::Reply;
 use memory::liveregion::LiveRegion;
 use model::Awaits;
@@ -50,12 +49,12 @@ pub fn piece_of(store: &[u64], handle: u64, kind: Kind, s: Split) -> FoundPiece
 {
     let start = first_of(kind);
     let at = Position(std::num::wrapping_add_u64(start.0, s.done));
-    submission::firstpiece::first_piece(store, handle, at, settle::left(s))
+    memory::piece::first_piece(store, handle, at, settle::left(s))
 }
 
 // The next piece is asked for.
 fn ask_piece(store: &[u64], row: Row, qtag: u64, kind: Kind, s: Split) -> Reply
-    ensures { λ r. ⌜ AsksFor (now (store .entry)) row qtag (awaitsPiece kind s) r ⌝ }
+    ensures { λ r. ⌜ AsksFor (now (store .entry)) row qtag (Awaits.Piece kind s) r ⌝ }
 {
     let piece = piece_of(store, row.handle, kind, s);
     let offset = piece.offset;
@@ -103,7 +102,7 @@ pub fn go_on(
     store: &[u64],
     pool: &mut [u8],
 ) -> Touched
-    ensures { λ r. ⌜ ((g : LiveRegion) → TouchedBy (next awaits t) qtag row g (now (store .entry)) r)
+    ensures { λ r. ⌜ ((g : LiveRegion) → TouchedBy (Finished.Next awaits t) qtag row g (now (store .entry)) r)
         × (now (pool .exit) ≡ turnedPool capacity (row .buffer) t (now (pool .entry))) ⌝ }
 {
     turn(pool, capacity, row.buffer, t);

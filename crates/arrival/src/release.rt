@@ -5,8 +5,8 @@ ghost use lib.ListN.{set};
 ghost use Rattle.memory.specs.declared.liveregion.LiveRegion.{LiveRegion};
 ghost use Rattle.ring.specs.Queue.{published};
 ghost use Rattle.step.specs.Step.{raised, completionOf};
-ghost use Rattle.settle.specs.declared.Finished.the-variants.{Ended as ended};
 ghost use Rattle.arrival.specs.Carried.{pushed, ownerWord, poisonedBy, Carried};
+ghost use Rattle.settle.specs.declared.Finished.the-variants as Finished;
 use completion::Buffer;
 use completion::Completion;
 use completion::Outcome;
@@ -106,7 +106,7 @@ pub fn release(
     owners: &mut [u64],
     pool: &mut [u8],
 ) -> Touched
-    ensures { λ r. ⌜ ((g : LiveRegion) → Carried (ended end) qtag row o g counts
+    ensures { λ r. ⌜ ((g : LiveRegion) → Carried (Finished.Ended end) qtag row o g counts
         (now (store .entry)) (now (free .entry)) (now (ready .entry)) (now (owners .entry)) (now (pool .entry))
         r (now (store .exit)) (now (free .exit)) (now (ready .exit)) (now (owners .exit)) (now (pool .exit))) ⌝ }
 {

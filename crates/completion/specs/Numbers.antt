@@ -3,10 +3,8 @@
 use Prim.Native.Nat.{ℕ}
 use Rattle.regionmap.specs.declared.Position.{Position}
 use Rattle.domain.specs.declared.FirstCause.{FirstCause}
-use Rattle.completion.specs.declared.Range.{Range}
-use Rattle.completion.specs.declared.Context.{Context}
+use Rattle.completion.specs.declared.{Range.Range, Context.Context, Refusal.Refusal}
 use Rattle.completion.specs.declared.Context.the-variants as Context
-use Rattle.completion.specs.declared.Refusal.{Refusal}
 use Rattle.completion.specs.declared.Refusal.the-variants as Refusal
 
 -- the number of each refusal

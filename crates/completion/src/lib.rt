@@ -68,7 +68,7 @@ pub struct Completion {
     pub buf: Buffer,
 }
 
-// "Context is the region's id. Questions 12 to 14 of a read add the range"; some have none.
+// "Context is the region's id. Questions 12 to 14 of a read add the range"; some have none (D-20).
 pub enum Context {
     None,
     Region(u64),
@@ -89,7 +89,7 @@ pub enum Refusal {
     OutOfBounds(Context),
     NotHeld(Context),
     LifetimeSpent(Context),
-    // An opening that breaks a rule or is lent too little, or a later call with another length of row memory or pool.
+    // An opening that breaks a rule or is lent too little, or a later call with another length of row memory or pool (D-10).
     Unfit,
     UnknownTag,
     NotAwaited,

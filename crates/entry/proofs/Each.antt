@@ -1,6 +1,6 @@
 -- From what the parts of a call's own function ensure to what it ensures: with other lengths nothing is done, and else the call is its arm's, its row and the
 -- counts put into their words (Calling).
-use mathlib.Core.Path.{_≡_, refl, sym, ap, _∙_}
+use mathlib.Core.Path.{_≡_, refl, sym, ap, _∙_, subst}
 use mathlib.Core.Bool.{Bool, true, false, _&&_}
 use mathlib.Core.List.{List}
 use Prim.Native.Nat.{ℕ, _/_, _%_}
@@ -19,11 +19,14 @@ use Rattle.model.specs.State.{freed}
 use Rattle.model.specs.Memory.{lengthsOf, sameLengths}
 use Rattle.step.specs.Lists.{isAway}
 use Rattle.optable.specs.declared.touched.Touched.{Touched}
-use Rattle.optable.specs.Called.{lentOf, awayWith, placeOf, ArmTo, TouchesTo}
+use Rattle.optable.specs.Called.{lentOf, awayWith, placeOf, ArmTo}
 use Rattle.marks.specs.Marks.{MarksTo}
 use Rattle.queuecore.proofs.QueuecoreTouching.{unfit}
 use Rattle.abi.specs.RowWords.{rowsIn}
 use Rattle.abi.proofs.Laws.{count}
+use Rattle.entry.specs.declared.settings.Setting.{Setting}
+use Rattle.entry.specs.declared.settings.Setting.the-variants.{Gate, ReadOnly, Forced, Poison}
+use Rattle.entry.specs.Settings.{settingCall}
 use Rattle.entry.specs.WordCalls.{countsIn, lentIn, Counted, Put}
 use Rattle.entry.proofs.Calling.{put-in-words}
 use Rattle.entry.specs.WholeRows.{Whole, CallsWhole, fitsIn}
@@ -109,3 +112,14 @@ module _ {call : Call} {counts rows store free ready owners pool : List ℕ} {b 
     pub marked : {store′ : List ℕ} → MarksTo call row store t store′ → {r : Reply} {counts′ rows′ : List ℕ} → Put t at c counts rows r counts′ rows′
         → CallsWhole call counts rows store free ready owners pool r counts′ rows′ store′ free ready owners pool
     marked sets put = armed (sets c (length rows / 16) free ready owners pool) put
+
+-- A setting has no row of its own, and is known by its form.
+pub no-place : (s : Setting) (c : Counts) (free : List ℕ) → 0 ≡ placeOf (settingCall s) c free
+unfolding placeOf
+no-place (Gate h gate) c free = refl
+no-place (ReadOnly h on) c free = refl
+no-place (Forced h on) c free = refl
+no-place (Poison cause) c free = refl
+
+pub known : {s s′ : Setting} → s ≡ s′ → (row : Row) (store : List ℕ) (t : Touched) (store′ : List ℕ) → MarksTo (settingCall s′) row store t store′ → MarksTo (settingCall s) row store t store′
+known e row store t store′ sets = subst (λ (x : Setting). MarksTo (settingCall x) row store t store′) (sym e) sets

@@ -7,8 +7,8 @@ use Rattle.completion.specs.declared.Reply.{Reply}
 use Rattle.completion.specs.declared.Reply.the-variants.{No as turnedAway, Ok}
 use Rattle.model.specs.declared.Counts.{Counts}
 use Rattle.model.specs.declared.Opening.{Opening}
-use Rattle.submitter.specs.declared.Opened.{Opened}
-use Rattle.submitter.specs.declared.Opened.the-variants.{Table, No}
+use Rattle.opening.specs.declared.Opened.{Opened}
+use Rattle.opening.specs.declared.Opened.the-variants.{Table, No}
 use Rattle.entry.specs.WholeRows.{OpensWhole}
 use Rattle.abi.specs.ReplyWords.{replyWords}
 use Rattle.entry.specs.Entry.{partsOf, openedReply, openedCounts, OpensOut}

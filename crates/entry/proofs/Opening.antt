@@ -1,4 +1,4 @@
--- From what the parts of `open_words` and `lookup_words` ensure to what they ensure: as of lent records (the submitter's proofs), with as many rows as the words hold.
+-- From what the parts of `open_words` ensure to what it ensures: as of lent records (opening's Opens), with as many rows as the words hold.
 use mathlib.Core.Path.{_≡_, refl, sym, ap, _∙_, subst}
 use mathlib.Core.Bool.{Bool, true, false}
 use mathlib.Core.Logic.{_⊎_, inl, inr}
@@ -6,32 +6,25 @@ use mathlib.Core.List.{List, _++_}
 use Prim.Native.Nat.{ℕ, _+_, _-_, _*_, _/_, _≤_, min}
 use native.Mathlib.Nat.{min-le-left, min-le-right, zero-min, le-trans}
 use native.Mathlib.Omega.{arith}
-use lib.ListN.{length, take, drop, replicate, length-replicate}
+use lib.ListN.{length, drop, replicate, length-replicate}
 use lib.Seq.{drop-drop, drop-append-add}
 use lib.Dec.{eqb}
 use borrow.Author.Tests.{eqb-true}
 use Rattle.layout.specs.Pick.{pick}
 use Rattle.layout.proofs.Tests.{true-or-false}
 use Rattle.completion.specs.declared.Refusal.{Refusal}
-use Rattle.completion.specs.declared.Reply.{Reply}
-use Rattle.model.specs.declared.Counts.{Counts}
-use Rattle.model.specs.declared.Lookup.{Lookup}
 use Rattle.model.specs.declared.Opening.{Opening}
-use Rattle.model.specs.Laws.{fresh}
+use Rattle.model.specs.State.{fresh}
 use Rattle.model.specs.Memory.{rowsOpened, over}
-use Rattle.opening.specs.Prepared.{lengthsWith, Prepared}
-use Rattle.optable.specs.Looked.{lookedIn}
-use Rattle.optable.specs.Called.{LooksTo}
-use Rattle.submitter.specs.declared.Fit.{Fit}
-use Rattle.submitter.specs.declared.Opened.{Opened}
-use Rattle.submitter.specs.declared.Opened.the-variants.{No, Table}
-use Rattle.submitter.specs.Look.{fitOf, answerOf}
-use Rattle.submitter.specs.Open.{refused, openedWith}
-use Rattle.submitter.proofs.Opening.{opens-to}
-use Rattle.submitter.proofs.Looking.{looks-to}
+use Rattle.memory.specs.Lengths.{lengthsWith}
+use Rattle.opening.specs.Prepared.{Prepared}
+use Rattle.opening.specs.declared.Opened.{Opened}
+use Rattle.opening.specs.declared.Opened.the-variants.{No, Table}
+use Rattle.opening.specs.Opened.{refused, openedWith}
+use Rattle.opening.proofs.Opens.{opens-to}
 use Rattle.abi.specs.RowWords.{rowsIn, rowsCleared}
 use Rattle.abi.proofs.Laws.{count, cleared-is, cleared-long}
-use Rattle.entry.specs.WordCalls.{countsIn, lentIn, OpensInWords}
+use Rattle.entry.specs.WordCalls.{OpensInWords}
 
 pick-no : {A : Type 0} (t : Bool) (a b : A) → t ≡ false → pick t a b ≡ b
 unfolding pick
@@ -86,20 +79,3 @@ opens-words o plan rows store free ready owners pool depth r rows′ store′ fr
       behind = ap (drop (16 * o .depth)) e-words ∙ cleared-behind n (o .depth) rows (le-trans (min-le-left depth (length rows / 16)) (depth-most _ depth (o .depth) (p .depth-is)));
       long = ap length e-words ∙ cleared-long n rows (min-le-right depth (length rows / 16));
     }
-
--- a lookup, with as many rows as the words hold
-looks-words : (x : Lookup) (c : Counts) (rows store free ready owners pool : List ℕ) (n : ℕ) → n ≡ length rows / 16
-    → LooksTo x c (lentIn rows store free ready owners pool)
-    (answerOf (fitOf (lengthsWith n store free ready owners (length pool)) store .fits) x c (lookedIn (c .submissions) (take (fitOf (lengthsWith n store free ready owners (length pool)) store .depth) (rowsIn rows))))
-looks-words x c rows store free ready owners pool n e =
-    subst (λ (k : ℕ). LooksTo x c (lentIn rows store free ready owners pool) (answerOf (fitOf (lengthsWith k store free ready owners (length pool)) store .fits) x c (lookedIn (c .submissions) (take (fitOf (lengthsWith k store free ready owners (length pool)) store .depth) (rowsIn rows)))))
-    (count rows ∙ sym e) (looks-to x c (rowsIn rows) store free ready owners pool)
-
--- with what the parts gave
-pub looks-replied : (x : Lookup) (counts rows store free ready owners pool : List ℕ) (n : ℕ) → n ≡ length rows / 16 → (fit : Fit) → fit ≡ fitOf (lengthsWith n store free ready owners (length pool)) store → (c : Counts) → c ≡ countsIn counts → (r : Reply)
-    → r ≡ answerOf (fit .fits) x c (lookedIn (c .submissions) (take (fit .depth) (rowsIn rows))) → LooksTo x (countsIn counts) (lentIn rows store free ready owners pool) r
-looks-replied x counts rows store free ready owners pool n e fit e-fit c e-counts r e-reply =
-    subst (λ (d : Counts). LooksTo x d (lentIn rows store free ready owners pool) r) e-counts
-    (subst (LooksTo x c (lentIn rows store free ready owners pool))
-    (sym (e-reply ∙ ap (λ (f : Fit). answerOf (f .fits) x c (lookedIn (c .submissions) (take (f .depth) (rowsIn rows)))) e-fit))
-    (looks-words x c rows store free ready owners pool n e))

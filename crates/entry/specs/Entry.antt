@@ -6,13 +6,10 @@ use mathlib.Core.Option.{Option, none, some}
 use mathlib.Core.List.{List, [], _∷_}
 use Prim.Native.Nat.{ℕ}
 use Rattle.completion.specs.declared.Reply.{Reply}
-use Rattle.completion.specs.declared.Reply.the-variants.{No as turnedAway, Ok}
-use Rattle.model.specs.declared.Call.{Call}
-use Rattle.model.specs.declared.Counts.{Counts}
-use Rattle.model.specs.declared.Lookup.{Lookup}
-use Rattle.model.specs.declared.Opening.{Opening}
-use Rattle.submitter.specs.declared.Opened.{Opened}
-use Rattle.submitter.specs.declared.Opened.the-variants.{Table, No}
+use Rattle.completion.specs.declared.Reply.the-variants as Reply
+use Rattle.model.specs.declared.{Call.Call, Lookup.Lookup, Opening.Opening}
+use Rattle.opening.specs.declared.Opened.{Opened}
+use Rattle.opening.specs.declared.Opened.the-variants as Opened
 use Rattle.entry.specs.WholeRows.{OpensWhole, CallsWhole, LooksWhole}
 use Rattle.abi.specs.ReplyWords.{replyWords, unknownWords}
 
@@ -50,12 +47,12 @@ pub record LooksOut (x : Lookup) (p : Parts) (out : List ℕ) : Type 0 where
 
 -- an opening: "Is all this so, and the row memory long enough? No: 13." The table's counts go to their words; refused, those stay too.
 unfoldable pub openedReply : Opened → Reply
-openedReply (Table c) = Ok
-openedReply (No f) = turnedAway f
+openedReply (Opened.Table c) = Reply.Ok
+openedReply (Opened.No f) = Reply.No f
 
 unfoldable pub openedCounts : Opened → List ℕ → List ℕ
-openedCounts (Table c) counts = c .live ∷ c .ready ∷ c .submissions ∷ []
-openedCounts (No f) counts = counts
+openedCounts (Opened.Table c) counts = c .live ∷ c .ready ∷ c .submissions ∷ []
+openedCounts (Opened.No f) counts = counts
 
 pub record OpensOut (o : Opening) (plan : List ℕ) (p p′ : Parts) (out : List ℕ) : Type 0 where
   pub opened : Opened

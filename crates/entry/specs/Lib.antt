@@ -1,3 +1,4 @@
 pub mod WordCalls
 pub mod WholeRows
 pub mod Entry
+pub mod Settings

@@ -1,26 +1,22 @@
 -- "The host lends row memory and a pool": the same table, the rows in words (abi's RowWords: rowsIn) and the counts in three words. The promises
--- are the very ones of a host that lends records (OpensTo of the submitter, CallsTo and LooksTo of optable's Called), and what is left of the rows'
--- words besides.
+-- are the very ones of a host that lends records (OpensTo of opening's Opened, CallsTo and LooksTo of optable's Called), and what is left of the
+-- rows' words besides.
 use mathlib.Core.Path.{_≡_}
 use mathlib.Core.Bool.{true, false}
 use mathlib.Core.Logic.{_⊎_}
 use mathlib.Core.List.{List}
 use Prim.Native.Nat.{ℕ, _+_, _*_, _≤_, _<_}
 use lib.ListN.{length, getD, drop, set}
-use Rattle.completion.specs.declared.Refusal.{Refusal}
-use Rattle.completion.specs.declared.Reply.{Reply}
-use Rattle.completion.specs.declared.Reply.the-variants.{No as turnedAway}
-use Rattle.model.specs.declared.Call.{Call}
-use Rattle.model.specs.declared.Counts.{Counts}
-use Rattle.model.specs.declared.Lookup.{Lookup}
-use Rattle.model.specs.declared.Opening.{Opening}
+use Rattle.completion.specs.declared.{Refusal.Refusal, Reply.Reply}
+use Rattle.completion.specs.declared.Reply.the-variants as Reply
+use Rattle.model.specs.declared.{Call.Call, Counts.Counts, Lookup.Lookup, Opening.Opening}
 use Rattle.model.specs.Memory.{Lent}
 use Rattle.optable.specs.Counted.{acceptedIf, releasedBy}
 use Rattle.optable.specs.declared.touched.Touched.{Touched}
 use Rattle.optable.specs.Called.{lentOf, placeOf, CallsTo, LooksTo}
-use Rattle.submitter.specs.declared.Opened.{Opened}
-use Rattle.submitter.specs.declared.Opened.the-variants.{No}
-use Rattle.submitter.specs.Open.{OpensTo}
+use Rattle.opening.specs.declared.Opened.{Opened}
+use Rattle.opening.specs.declared.Opened.the-variants as Opened
+use Rattle.opening.specs.Opened.{OpensTo}
 use Rattle.step.specs.Lists.{isAway}
 use Rattle.abi.specs.RowWords.{rowsIn}
 
@@ -37,7 +33,7 @@ pub record OpensInWords (o : Opening) (plan rows store free ready owners pool : 
     (rows′ store′ free′ ready′ owners′ : List ℕ) : Type 0 where
   pub opens : OpensTo o plan (lentIn rows store free ready owners pool) r (rowsIn rows′) store′ free′ ready′ owners′
   -- a refused opening changes no word of the rows either, and none behind the last row of an admitted one is written
-  pub turned-away : (f : Refusal) → r ≡ No f → rows′ ≡ rows
+  pub turned-away : (f : Refusal) → r ≡ Opened.No f → rows′ ≡ rows
   pub behind : drop (16 * o .depth) rows′ ≡ drop (16 * o .depth) rows
   pub long : length rows′ ≡ length rows
 
@@ -60,7 +56,7 @@ pub record CallsInWords (call : Call) (counts rows store free ready owners pool 
   pub calls : CallsTo call (countsIn counts) (lentIn rows store free ready owners pool) r
       (countsIn counts′) (lentIn rows′ store′ free′ ready′ owners′ pool′)
   -- a call that is turned away changes nothing: no word of the counts or of the rows either
-  pub turned-away : (f : Refusal) → r ≡ turnedAway f → (counts′ ≡ counts) × (rows′ ≡ rows)
+  pub turned-away : (f : Refusal) → r ≡ Reply.No f → (counts′ ≡ counts) × (rows′ ≡ rows)
   -- no word but those of the row that the call touches is written
   pub others : (i : ℕ) → (i < 16 * placeOf call (countsIn counts) free) ⊎ (16 * placeOf call (countsIn counts) free + 16 ≤ i)
       → getD rows′ i 0 ≡ getD rows i 0

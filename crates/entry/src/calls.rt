@@ -1,7 +1,6 @@
 // The calls of an operation's way, each by a function of its own, over rows in words: a submission, an answer or a flush result, a taking. 13 first,
 // as everywhere; then the call is its arm's (queue_core.rs), and the row and the counts are put into their words. The code of one call carries
-// nothing that only another leaves.
-ghost use Rattle.model.specs.declared.Call.the-variants.{Write as writeCall, ReadPage as readCall, Take as takeCall};
+// nothing that only another leaves (D-16).
 ghost use Rattle.arrival.specs.Arrived.{arrivedCall};
 ghost use Rattle.entry.specs.WholeRows.{CallsWhole};
 use arrival::Arrived;
@@ -21,7 +20,7 @@ pub fn write(
     owners: &mut [u64],
     pool: &mut [u8],
 ) -> Reply
-    ensures { λ r. ⌜ CallsWhole (writeCall q) (now (counts .entry)) (now (rows .entry)) (now (store .entry))
+    ensures { λ r. ⌜ CallsWhole (Call.Write q) (now (counts .entry)) (now (rows .entry)) (now (store .entry))
         (now (free .entry)) (now (ready .entry)) (now (owners .entry)) (now (pool .entry))
         r (now (counts .exit)) (now (rows .exit)) (now (store .exit))
         (now (free .exit)) (now (ready .exit)) (now (owners .exit)) (now (pool .exit)) ⌝ }
@@ -47,7 +46,7 @@ pub fn read_page(
     owners: &mut [u64],
     pool: &mut [u8],
 ) -> Reply
-    ensures { λ r. ⌜ CallsWhole (readCall q) (now (counts .entry)) (now (rows .entry)) (now (store .entry))
+    ensures { λ r. ⌜ CallsWhole (Call.ReadPage q) (now (counts .entry)) (now (rows .entry)) (now (store .entry))
         (now (free .entry)) (now (ready .entry)) (now (owners .entry)) (now (pool .entry))
         r (now (counts .exit)) (now (rows .exit)) (now (store .exit))
         (now (free .exit)) (now (ready .exit)) (now (owners .exit)) (now (pool .exit)) ⌝ }
@@ -100,7 +99,7 @@ pub fn take(
     owners: &mut [u64],
     pool: &mut [u8],
 ) -> Reply
-    ensures { λ r. ⌜ CallsWhole takeCall (now (counts .entry)) (now (rows .entry)) (now (store .entry))
+    ensures { λ r. ⌜ CallsWhole Call.Take (now (counts .entry)) (now (rows .entry)) (now (store .entry))
         (now (free .entry)) (now (ready .entry)) (now (owners .entry)) (now (pool .entry))
         r (now (counts .exit)) (now (rows .exit)) (now (store .exit))
         (now (free .exit)) (now (ready .exit)) (now (owners .exit)) (now (pool .exit)) ⌝ }

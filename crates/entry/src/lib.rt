@@ -11,23 +11,22 @@ pub mod words;
 
 ghost use mathlib.Core.Path.{_≡_};
 ghost use Rattle.iobuf.specs.Turn.{turned};
-ghost use Rattle.model.specs.declared.Call.the-variants.{Write, ReadPage, Take, SetGate, SetReadOnly, SetForced, ReportPoison};
-ghost use Rattle.model.specs.declared.Lookup.the-variants.{WritesLive, Mark};
 ghost use Rattle.model.specs.Memory.{settingsIn};
 ghost use Rattle.arrival.specs.Arrived.{arrivedCall};
 ghost use Rattle.abi.specs.Asked.{requestIn, answerAsked, flushedAsked, gateAsked, poisonAsked};
 ghost use Rattle.entry.specs.Entry.{partsOf, CallsOut, AnswersOut, LooksOut, OpensOut};
+ghost use Rattle.entry.specs.Settings.{settingCall};
+ghost use Rattle.model.specs.declared.Call.the-variants as Call;
+use crate::settings::Setting;
 use abi::codes::AnswerForm;
 use abi::codes::CauseForm;
 use abi::codes::FlushedForm;
 use abi::codes::GateForm;
 use arrival::Arrived;
 use completion::Reply;
-use domain::FirstCause;
-use model::Gate;
 use model::Lookup;
 use model::Request;
-use submitter::Opened;
+use opening::Opened;
 
 // A write's reply.
 fn write(
@@ -41,7 +40,7 @@ fn write(
     pool: &mut [u8],
     out: &mut [u64; 17],
 )
-    ensures { λ _. ⌜ CallsOut (Write q) (partsOf (now (counts .entry)) (now (rows .entry)) (now (store .entry))
+    ensures { λ _. ⌜ CallsOut (Call.Write q) (partsOf (now (counts .entry)) (now (rows .entry)) (now (store .entry))
         (now (free .entry)) (now (ready .entry)) (now (owners .entry)) (now (pool .entry)))
         (partsOf (now (counts .exit)) (now (rows .exit)) (now (store .exit))
         (now (free .exit)) (now (ready .exit)) (now (owners .exit)) (now (pool .exit))) (now (out .exit)) ⌝ }
@@ -62,7 +61,7 @@ fn read_page(
     pool: &mut [u8],
     out: &mut [u64; 17],
 )
-    ensures { λ _. ⌜ CallsOut (ReadPage q) (partsOf (now (counts .entry)) (now (rows .entry)) (now (store .entry))
+    ensures { λ _. ⌜ CallsOut (Call.ReadPage q) (partsOf (now (counts .entry)) (now (rows .entry)) (now (store .entry))
         (now (free .entry)) (now (ready .entry)) (now (owners .entry)) (now (pool .entry)))
         (partsOf (now (counts .exit)) (now (rows .exit)) (now (store .exit))
         (now (free .exit)) (now (ready .exit)) (now (owners .exit)) (now (pool .exit))) (now (out .exit)) ⌝ }
@@ -93,10 +92,9 @@ fn arrived(
     abi::replies::put_reply(reply, out);
 }
 
-// That of a gate that is set.
-fn gated(
-    handle: u64,
-    gate: Gate,
+// That of a setting, or of a report of poison.
+fn set(
+    what: Setting,
     counts: &mut [u64; 3],
     rows: &mut [u64],
     store: &mut [u64],
@@ -106,52 +104,12 @@ fn gated(
     pool: &mut [u8],
     out: &mut [u64; 17],
 )
-    ensures { λ _. ⌜ CallsOut (SetGate handle gate) (partsOf (now (counts .entry)) (now (rows .entry)) (now (store .entry))
+    ensures { λ _. ⌜ CallsOut (settingCall what) (partsOf (now (counts .entry)) (now (rows .entry)) (now (store .entry))
         (now (free .entry)) (now (ready .entry)) (now (owners .entry)) (now (pool .entry)))
         (partsOf (now (counts .exit)) (now (rows .exit)) (now (store .exit))
         (now (free .exit)) (now (ready .exit)) (now (owners .exit)) (now (pool .exit))) (now (out .exit)) ⌝ }
 {
-    let reply = crate::settings::set_gate(
-        handle,
-        gate,
-        counts,
-        rows,
-        store,
-        free,
-        ready,
-        owners,
-        pool,
-    );
-    abi::replies::put_reply(reply, out);
-}
-
-// That of a report of poison.
-fn poisoned(
-    cause: FirstCause,
-    counts: &mut [u64; 3],
-    rows: &mut [u64],
-    store: &mut [u64],
-    free: &mut [u64],
-    ready: &mut [u64],
-    owners: &mut [u64],
-    pool: &mut [u8],
-    out: &mut [u64; 17],
-)
-    ensures { λ _. ⌜ CallsOut (ReportPoison cause) (partsOf (now (counts .entry)) (now (rows .entry)) (now (store .entry))
-        (now (free .entry)) (now (ready .entry)) (now (owners .entry)) (now (pool .entry)))
-        (partsOf (now (counts .exit)) (now (rows .exit)) (now (store .exit))
-        (now (free .exit)) (now (ready .exit)) (now (owners .exit)) (now (pool .exit))) (now (out .exit)) ⌝ }
-{
-    let reply = crate::settings::report_poison(
-        cause,
-        counts,
-        rows,
-        store,
-        free,
-        ready,
-        owners,
-        pool,
-    );
+    let reply = crate::settings::set(what, counts, rows, store, free, ready, owners, pool);
     abi::replies::put_reply(reply, out);
 }
 
@@ -200,7 +158,7 @@ pub extern "C" fn table_write(
     pool: &mut [u8],
     out: &mut [u64; 17],
 )
-    ensures { λ _. ⌜ CallsOut (Write (requestIn (now (request .entry)))) (partsOf (now (counts .entry)) (now (rows .entry)) (now (store .entry))
+    ensures { λ _. ⌜ CallsOut (Call.Write (requestIn (now (request .entry)))) (partsOf (now (counts .entry)) (now (rows .entry)) (now (store .entry))
         (now (free .entry)) (now (ready .entry)) (now (owners .entry)) (now (pool .entry)))
         (partsOf (now (counts .exit)) (now (rows .exit)) (now (store .exit))
         (now (free .exit)) (now (ready .exit)) (now (owners .exit)) (now (pool .exit))) (now (out .exit)) ⌝ }
@@ -222,8 +180,8 @@ pub extern "C" fn table_read_page(
     pool: &mut [u8],
     out: &mut [u64; 17],
 )
-    ensures { λ _. ⌜ CallsOut (ReadPage (requestIn (now (request .entry)))) (partsOf (now (counts .entry)) (now (rows .entry)) (now (store .entry))
-        (now (free .entry)) (now (ready .entry)) (now (owners .entry)) (now (pool .entry)))
+    ensures { λ _. ⌜ CallsOut (Call.ReadPage (requestIn (now (request .entry)))) (partsOf (now (counts .entry)) (now (rows .entry))
+        (now (store .entry)) (now (free .entry)) (now (ready .entry)) (now (owners .entry)) (now (pool .entry)))
         (partsOf (now (counts .exit)) (now (rows .exit)) (now (store .exit))
         (now (free .exit)) (now (ready .exit)) (now (owners .exit)) (now (pool .exit))) (now (out .exit)) ⌝ }
 {
@@ -330,7 +288,7 @@ pub extern "C" fn table_take(
     pool: &mut [u8],
     out: &mut [u64; 17],
 )
-    ensures { λ _. ⌜ CallsOut Take (partsOf (now (counts .entry)) (now (rows .entry)) (now (store .entry))
+    ensures { λ _. ⌜ CallsOut Call.Take (partsOf (now (counts .entry)) (now (rows .entry)) (now (store .entry))
         (now (free .entry)) (now (ready .entry)) (now (owners .entry)) (now (pool .entry)))
         (partsOf (now (counts .exit)) (now (rows .exit)) (now (store .exit))
         (now (free .exit)) (now (ready .exit)) (now (owners .exit)) (now (pool .exit))) (now (out .exit)) ⌝ }
@@ -360,9 +318,8 @@ pub extern "C" fn table_set_gate(
 {
     let named = abi::codes::gate_form(gate);
     match named {
-        GateForm::Known(gate) => gated(
-            handle,
-            gate,
+        GateForm::Known(gate) => set(
+            Setting::Gate { handle, gate },
             counts,
             rows,
             store,
@@ -390,23 +347,13 @@ pub extern "C" fn table_set_read_only(
     pool: &mut [u8],
     out: &mut [u64; 17],
 )
-    ensures { λ _. ⌜ CallsOut (SetReadOnly handle on) (partsOf (now (counts .entry)) (now (rows .entry)) (now (store .entry))
+    ensures { λ _. ⌜ CallsOut (Call.SetReadOnly handle on) (partsOf (now (counts .entry)) (now (rows .entry)) (now (store .entry))
         (now (free .entry)) (now (ready .entry)) (now (owners .entry)) (now (pool .entry)))
         (partsOf (now (counts .exit)) (now (rows .exit)) (now (store .exit))
         (now (free .exit)) (now (ready .exit)) (now (owners .exit)) (now (pool .exit))) (now (out .exit)) ⌝ }
 {
-    let reply = crate::settings::set_read_only(
-        handle,
-        on,
-        counts,
-        rows,
-        store,
-        free,
-        ready,
-        owners,
-        pool,
-    );
-    abi::replies::put_reply(reply, out);
+    let what = Setting::ReadOnly { handle, on };
+    set(what, counts, rows, store, free, ready, owners, pool, out)
 }
 
 // A region's forced mark is set.
@@ -423,23 +370,13 @@ pub extern "C" fn table_set_forced(
     pool: &mut [u8],
     out: &mut [u64; 17],
 )
-    ensures { λ _. ⌜ CallsOut (SetForced handle on) (partsOf (now (counts .entry)) (now (rows .entry)) (now (store .entry))
+    ensures { λ _. ⌜ CallsOut (Call.SetForced handle on) (partsOf (now (counts .entry)) (now (rows .entry)) (now (store .entry))
         (now (free .entry)) (now (ready .entry)) (now (owners .entry)) (now (pool .entry)))
         (partsOf (now (counts .exit)) (now (rows .exit)) (now (store .exit))
         (now (free .exit)) (now (ready .exit)) (now (owners .exit)) (now (pool .exit))) (now (out .exit)) ⌝ }
 {
-    let reply = crate::settings::set_forced(
-        handle,
-        on,
-        counts,
-        rows,
-        store,
-        free,
-        ready,
-        owners,
-        pool,
-    );
-    abi::replies::put_reply(reply, out);
+    let what = Setting::Forced { handle, on };
+    set(what, counts, rows, store, free, ready, owners, pool, out)
 }
 
 // Poison is reported, with a cause: operation 0 none, 1 read, 2 write, 3 flush (Domain::poison).
@@ -464,8 +401,8 @@ pub extern "C" fn table_report_poison(
 {
     let named = abi::codes::cause_form(op, has, raw);
     match named {
-        CauseForm::Known(cause) => poisoned(
-            cause,
+        CauseForm::Known(cause) => set(
+            Setting::Poison(cause),
             counts,
             rows,
             store,
@@ -491,7 +428,7 @@ pub extern "C" fn table_writes_live(
     pool: &[u8],
     out: &mut [u64; 17],
 )
-    ensures { λ _. ⌜ LooksOut WritesLive (partsOf (now (counts .entry)) (now (rows .entry)) (now (store .entry))
+    ensures { λ _. ⌜ LooksOut Lookup.WritesLive (partsOf (now (counts .entry)) (now (rows .entry)) (now (store .entry))
         (now (free .entry)) (now (ready .entry)) (now (owners .entry)) (now (pool .entry))) (now (out .exit)) ⌝ }
 {
     let reply = crate::wholerows::lookup_whole(
@@ -519,7 +456,7 @@ pub extern "C" fn table_mark(
     pool: &[u8],
     out: &mut [u64; 17],
 )
-    ensures { λ _. ⌜ LooksOut Mark (partsOf (now (counts .entry)) (now (rows .entry)) (now (store .entry))
+    ensures { λ _. ⌜ LooksOut Lookup.Mark (partsOf (now (counts .entry)) (now (rows .entry)) (now (store .entry))
         (now (free .entry)) (now (ready .entry)) (now (owners .entry)) (now (pool .entry))) (now (out .exit)) ⌝ }
 {
     let reply = crate::wholerows::lookup_whole(

@@ -6,7 +6,7 @@ use completion::Refusal;
 use completion::Reply;
 use model::Lookup;
 use model::Opening;
-use submitter::Opened;
+use opening::Opened;
 
 // Opens a table in what is lent (submitter::open).
 pub fn open_whole(
@@ -42,8 +42,7 @@ pub fn fits(
         (now (rows .entry)) (now (store .entry)) (now (free .entry)) (now (ready .entry)) (now (owners .entry)) (now (pool .entry)) ⌝ }
 {
     if rows.len() % 16 == 0 {
-        let f = submitter::fitted(rows.len() / 16, store, free, ready, owners, pool);
-        return f.fits;
+        return memory::lengths::fits(rows.len() / 16, store, free, ready, owners, pool);
     }
     false
 }

@@ -1,8 +1,8 @@
 // The calls that a host makes whose rows lie in words (store-io's submitter/mod.rs): what the crate submitter does over lent records, with the same
 // promises.
 ghost use mathlib.Core.Path.{_≡_};
-ghost use mathlib.Core.List.{[], _∷_};
 ghost use lib.ListN.{take};
+ghost use Rattle.optable.specs.Counted.{acceptedIf, releasedBy};
 ghost use Rattle.optable.specs.Looked.{lookedIn};
 ghost use Rattle.abi.specs.RowWords.{rowsIn};
 ghost use Rattle.step.specs.Lists.{isAway};
@@ -11,9 +11,9 @@ use completion::Reply;
 use model::Counts;
 use model::Lookup;
 use model::Opening;
+use opening::Opened;
 use optable::lookup::Looked;
 use optable::touched::Touched;
-use submitter::Opened;
 
 // Opens a table in what is lent (submitter::open).
 pub fn open_words(
@@ -41,7 +41,7 @@ pub fn open_words(
         pool.len(),
     );
     abi::rows::clear(rows, depth);
-    submitter::reply(depth)
+    opening::reply(depth)
 }
 
 // The counts in three words.
@@ -55,11 +55,13 @@ pub fn counts_of(counts: &[u64; 3]) -> Counts
     }
 }
 
-// The three words of the counts.
-fn put_counts(counts: &mut [u64; 3], c: Counts)
-    ensures { λ _. ⌜ now (counts .exit) ≡ c .live ∷ c .ready ∷ c .submissions ∷ [] ⌝ }
+// The counts are put into their words, as a call leaves them.
+fn put_counts(t: Touched, c: Counts, counts: &mut [u64; 3])
+    ensures { λ _. ⌜ countsIn (now (counts .exit)) ≡ releasedBy (t .frees) (acceptedIf (t .accepts) c) ⌝ }
 {
-    *counts = [c.live, c.ready, c.submissions];
+    let frees = t.frees;
+    let next = optable::released(optable::accepted(c, t.accepts), frees);
+    *counts = [next.live, next.ready, next.submissions];
 }
 
 // Whether a call is turned away.
@@ -72,7 +74,7 @@ fn away(reply: Reply) -> bool
     }
 }
 
-// The counts are put into their words, as a call leaves them; one that is turned away writes none.
+// The counts are put into their words, unless the call is turned away: then none is written.
 pub fn put_counted(t: Touched, c: Counts, counts: &mut [u64; 3]) -> Reply
     ensures { λ r. ⌜ Counted t c (now (counts .entry)) r (now (counts .exit)) ⌝ }
 {
@@ -80,11 +82,7 @@ pub fn put_counted(t: Touched, c: Counts, counts: &mut [u64; 3]) -> Reply
     if away(reply) {
         return reply;
     }
-    let frees = t.frees;
-    put_counts(
-        counts,
-        optable::released(optable::accepted(c, t.accepts), frees),
-    );
+    put_counts(t, c, counts);
     reply
 }
 
@@ -104,14 +102,15 @@ pub fn put_touched(
     }
     let touched = t.row;
     abi::rows::put_row(rows, at, touched);
-    put_counted(t, c, counts)
+    put_counts(t, c, counts);
+    reply
 }
 
 // Walks through the first rows, as many as the depth, from the last to the first (optable::lookup::look).
 fn look(rows: &[u64], depth: usize, next: u64) -> Looked
     ensures { λ r. ⌜ r ≡ lookedIn next (take depth (rowsIn (now (rows .entry)))) ⌝ }
 {
-    let mut i = optable::smaller(depth, rows.len() / 16);
+    let mut i = layout::lesser(depth, rows.len() / 16);
     let mut l = Looked {
         writes: false,
         oldest: next,
@@ -137,8 +136,8 @@ pub fn lookup_words(
     ensures { λ r. ⌜ LooksInWords x (now (counts .entry))
         (now (rows .entry)) (now (store .entry)) (now (free .entry)) (now (ready .entry)) (now (owners .entry)) (now (pool .entry)) r ⌝ }
 {
-    let f = submitter::fitted(rows.len() / 16, store, free, ready, owners, pool);
+    let f = memory::lengths::fitted(rows.len() / 16, store, free, ready, owners, pool);
     let c = counts_of(counts);
     let l = look(rows, f.depth, c.submissions);
-    submitter::answer(x, c, f.fits, l)
+    optable::lookup::answer(x, c, f.fits, l)
 }

@@ -21,18 +21,12 @@ use Rattle.domain.specs.declared.OsError.the-variants as OsError
 use Rattle.domain.specs.declared.FirstCause.{FirstCause}
 use Rattle.platform.specs.declared.Answer.the-variants as Answer
 use Rattle.platform.specs.declared.Flushed.the-variants as Flushed
-use Rattle.completion.specs.declared.WriteTicket.{WriteTicket}
-use Rattle.completion.specs.declared.Range.{Range}
+use Rattle.completion.specs.declared.{WriteTicket.WriteTicket, Range.Range, DurableReceipt.DurableReceipt, Completion.Completion, Reply.Reply}
 use Rattle.completion.specs.declared.Outcome.the-variants as Outcome
 use Rattle.completion.specs.declared.Buffer.the-variants as Buffer
-use Rattle.completion.specs.declared.DurableReceipt.{DurableReceipt}
-use Rattle.completion.specs.declared.Completion.{Completion}
 use Rattle.completion.specs.declared.Refusal.the-variants as Refusal
-use Rattle.completion.specs.declared.Reply.{Reply}
 use Rattle.completion.specs.declared.Reply.the-variants as Reply
-use Rattle.model.specs.declared.Opening.{Opening}
-use Rattle.model.specs.declared.Lengths.{Lengths}
-use Rattle.model.specs.declared.Request.{Request}
+use Rattle.model.specs.declared.{Opening.Opening, Lengths.Lengths, Request.Request}
 use Rattle.model.specs.declared.Call.the-variants as Call
 use Rattle.model.specs.declared.Lookup.the-variants as Lookup
 use Rattle.model.specs.State.{State}
@@ -41,27 +35,13 @@ use Rattle.step.specs.Step.{rowAt}
 use Rattle.step.specs.Run.{Made, Made.calls, Made.looks, Event, run, Start}
 use Rattle.step.specs.Lists.{Completed, gets, Hosted, tagAt}
 use Rattle.step.specs.Demand3.{Supposed, Agreed}
+use Rattle.step.specs.Figures.{openingWith}
 use Rattle.examples.specs.Acts.{Act, Act.makes, Act.writes, Act.arrives, Act.lends, eventsOf, replies}
 
 -- ---- the opening
 
 unfoldable pub opening : Opening
-opening =
-    record {
-      block = 512;
-      depth = 6;
-      lifetime = 1000;
-      card = 16384;
-      buffers = 6;
-      capacity = 1024;
-      «read_only» = false;
-      flush = true;
-      volume = 1;
-      class = 0;
-      label = 0;
-      epoch = 0;
-      regions = 1;
-    }
+opening = openingWith 6 1000 6 1024 true
 
 -- the one region in the words of a plan: id, generation, first offset, capacity, data length, two further runs
 unfoldable pub plan : List ℕ

@@ -106,13 +106,6 @@ pub fn number_in(text: &[u8], k: usize) -> Field
     number(&text[from..to])
 }
 
-// How long the first field is.
-pub fn first_length(text: &[u8]) -> usize
-    ensures { λ r. ⌜ r ≡ length (field 0 (now (text .entry))) ⌝ }
-{
-    field_end(text, 0)
-}
-
 // The first byte of a line; 0 where it has none.
 pub fn first_byte(text: &[u8]) -> u8
     ensures { λ r. ⌜ r ≡ getD (now (text .entry)) 0 0 ⌝ }

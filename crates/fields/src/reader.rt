@@ -2,14 +2,21 @@
 // passed over, however long." The first 4,096 bytes are kept, and whether there are more.
 ghost use mathlib.Core.Path.{_≡_};
 ghost use mathlib.Core.List.{List, [], _∷_, _++_};
-ghost use Prim.Native.Nat.{ℕ, _<_};
+ghost use Prim.Native.Nat.{ℕ, _≤_, _<_};
 ghost use lib.ListN.{length, set};
-ghost use Rattle.fields.specs.Trace.{Kept};
+ghost use Rattle.fields.specs.Trace.{Kept, frontOf};
 
 // How many bytes of a line are kept, and whether there were more.
 pub struct Reader {
     pub kept: usize,
     pub long: bool,
+}
+
+// How a line is read once all its bytes are there: as a comment, as a bad line, or by as many of its first bytes.
+pub enum Front {
+    Comment,
+    Bad,
+    Text(usize),
 }
 
 // Before the first byte.
@@ -46,4 +53,20 @@ pub fn feed(r: Reader, line: &mut [u8; 4096], b: u8) -> Reader
         kept: at + 1,
         long: r.long,
     }
+}
+
+// A longer line goes by its first byte, any other is read whole.
+pub fn front_of(r: Reader, line: &[u8; 4096]) -> Front
+    ensures { λ f. ⌜ ((n : ℕ) → f ≡ Front.Text n → n ≤ 4096) × ((bytes : List ℕ) → Kept r (now (line .entry)) bytes → f ≡ frontOf bytes) ⌝ }
+{
+    if r.long {
+        if line[0] == 35 {
+            return Front::Comment;
+        }
+        return Front::Bad;
+    }
+    if 4096 < r.kept {
+        return Front::Bad;
+    }
+    Front::Text(r.kept)
 }

@@ -2,7 +2,7 @@
 use mathlib.Core.Path.{_≡_, refl, sym, ap, _∙_, subst}
 use mathlib.Core.Bool.{Bool, true, false, _&&_}
 use mathlib.Core.List.{List, [], _∷_}
-use Prim.Native.Nat.{ℕ, _+_, _-_, _≤_, _<_, _^_}
+use Prim.Native.Nat.{ℕ, _-_, _≤_, _<_, _^_}
 use native.Mathlib.Omega.{arith}
 use lib.ListN.{length, getD, take}
 use lib.Dec.{leb, eqb}
@@ -16,8 +16,8 @@ use Rattle.model.specs.declared.Awaits.the-variants.{Nothing, Piece, Flush}
 use Rattle.model.specs.declared.Row.{Row}
 use Rattle.model.specs.State.{State, freed, awaiting}
 use Rattle.model.specs.Memory.{Lent, settingsIn, stateIn}
-use Rattle.step.specs.Questions.{regionAt}
-use Rattle.step.specs.Rules.{pieceLength, firstOf, rangeEnd}
+use Rattle.step.specs.Questions.{byteAt, regionAt}
+use Rattle.step.specs.Rules.{leftOf, pieceLength, firstOf, rangeEnd}
 use Rattle.step.specs.Step.{rowAt, planOf}
 use Rattle.step.specs.Sound.{Sound, InTable, SplitFits}
 use Rattle.step.specs.Lists.{loose, planAt}
@@ -32,8 +32,8 @@ use denote.Enum.Declared.{tagOf}
 use Rattle.model.proofs.Awaits.{the-type}
 use Rattle.regionmap.specs.declared.Position.{Position}
 use Rattle.regionmap.specs.declared.FoundPiece.{FoundPiece}
-use Rattle.regionmap.specs.Words.{wrap64}
-use Rattle.submission.specs.Piece.{PieceIn}
+use Rattle.regionmap.specs.Found.{wrap64}
+use Rattle.memory.specs.Piece.{PieceIn}
 use Rattle.hostfill.specs.MayFill.{reads, looseRow, Open, CoversRead, Covers}
 
 -- a row in another buffer, or one that awaits no read's piece
@@ -65,7 +65,7 @@ module _ (store : List ℕ) (h : ℕ) (k : Kind) (sp : Split) (end : ℕ) where
   unfolding Covers
   page-covers a z e = subst (λ (x : Kind). Covers store h x sp end false) (sym e) refl
 
-  pub read-covers : (a z : Position) → k ≡ Read a z → (found : FoundPiece) → PieceIn store h (wrap64 (firstOf k .0 + sp .done)) (sp .total - sp .done) found → Covers store h k sp end (leb end (found .count))
+  pub read-covers : (a z : Position) → k ≡ Read a z → (found : FoundPiece) → PieceIn store h (wrap64 (byteAt (firstOf k .0) (sp .done))) (leftOf sp) found → Covers store h k sp end (leb end (found .count))
   unfolding Covers
   read-covers a z e found is =
       subst (λ (x : Kind). Covers store h x sp end (leb end (found .count))) (sym e)

@@ -6,13 +6,9 @@ use mathlib.Core.List.{List, [], _∷_}
 use Prim.Native.Nat.{ℕ, _+_, _<_}
 use lib.ListN.{getD}
 use lib.Dec.{leb, eqb}
-use Rattle.model.specs.declared.Counts.{Counts}
-use Rattle.model.specs.declared.Kind.{Kind}
-use Rattle.model.specs.declared.Split.{Split}
-use Rattle.model.specs.declared.Kind.the-variants.{Page, Read}
-use Rattle.model.specs.declared.Awaits.{Awaits}
-use Rattle.model.specs.declared.Awaits.the-variants.{Nothing, Piece, Flush}
-use Rattle.model.specs.declared.Row.{Row}
+use Rattle.model.specs.declared.{Counts.Counts, Kind.Kind, Split.Split, Awaits.Awaits, Row.Row}
+use Rattle.model.specs.declared.Kind.the-variants as Kind
+use Rattle.model.specs.declared.Awaits.the-variants as Awaits
 use Rattle.model.specs.State.{State, freed}
 use Rattle.model.specs.Memory.{Lent, lengthsOf, sameLengths, settingsIn, stateIn}
 use Rattle.step.specs.Questions.{heldAt}
@@ -24,10 +20,10 @@ use Rattle.hostfill.specs.Writes.{inPool}
 
 -- a read's piece is under way
 unfoldable pub reads : Awaits → Bool
-reads Nothing = false
-reads (Piece (Page a b) s) = false
-reads (Piece (Read a b) s) = true
-reads (Flush t) = false
+reads Awaits.Nothing = false
+reads (Awaits.Piece (Kind.Page a b) s) = false
+reads (Awaits.Piece (Kind.Read a b) s) = true
+reads (Awaits.Flush t) = false
 
 -- a read's piece is under way in buffer b, and its bytes are at least the first `end` of the buffer
 unfoldable pub looseRow : State → ℕ → ℕ → Row → Bool
@@ -61,8 +57,8 @@ pub record CoversRead (store : List ℕ) (h : ℕ) (k : Kind) (s : Split) (end :
   pub covers : r ≡ leb end piece
 
 unfoldable pub Covers : List ℕ → ℕ → Kind → Split → ℕ → Bool → Type 0
-Covers store h (Page a b) s end r = r ≡ false
-Covers store h (Read a b) s end r = CoversRead store h (Read a b) s end r
+Covers store h (Kind.Page a b) s end r = r ≡ false
+Covers store h (Kind.Read a b) s end r = CoversRead store h (Kind.Read a b) s end r
 
 -- .. and of one of them
 abbrev pub TellsRow : Row → List ℕ → ℕ → ℕ → Bool → Type 0

@@ -38,7 +38,7 @@ fn any_loose(store: &[u64], rows: [Row; 64], b: u64, end: u64) -> bool
     ensures { λ r. ⌜ TellsLoose rows (now (store .entry)) b end r ⌝ }
 {
     let depth = crate::pool::word(store, 1) as usize;
-    let n = optable::smaller(depth, 64);
+    let n = layout::lesser(depth, 64);
     let mut i: usize = 0;
     while i < n {
         let row = rows[i];

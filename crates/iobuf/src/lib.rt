@@ -10,14 +10,13 @@ pub mod shift;
 
 ghost use mathlib.Core.Path.{_≡_};
 ghost use Rattle.iobuf.specs.Turn.{turned, turnedIn};
-use crate::moves::lesser;
 use crate::rotation::rotate;
 
 // Turns the first n bytes left by k (rotate_left); the bytes past n stay, and so do all where k is not below n.
 pub fn rotate_left(s: &mut [u8], n: usize, k: usize)
     ensures { λ _. ⌜ now (s .exit) ≡ turned n k (now (s .entry)) ⌝ }
 {
-    let end = lesser(n, s.len());
+    let end = layout::lesser(n, s.len());
     if k == 0 {
         return;
     }

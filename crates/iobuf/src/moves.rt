@@ -1,7 +1,7 @@
 // Bytes of a slice moved to its front or its back through a small array (copy_within, a part at a time).
 ghost use mathlib.Core.Path.{_≡_};
 ghost use mathlib.Core.List.{_++_};
-ghost use Prim.Native.Nat.{_+_, _-_, _≤_, _<_, min};
+ghost use Prim.Native.Nat.{_+_, _-_, _≤_, _<_};
 ghost use lib.ListN.{length, take, drop};
 ghost use lib.Seq.{paste};
 
@@ -28,13 +28,6 @@ fn hop(s: &mut [u8], held: &mut [u8], from: usize, to: usize)
     copy(held, &mut s[to..to_end]);
 }
 
-// The lesser of two numbers (min).
-pub fn lesser(a: usize, b: usize) -> usize
-    ensures { λ r. ⌜ r ≡ min a b ⌝ }
-{
-    if a < b { a } else { b }
-}
-
 // Moves the bytes from k on to the front, from the front on, a `held` at a time; the last k bytes stay.
 pub fn move_left(s: &mut [u8], held: &mut [u8], k: usize)
     requires { ⌜ (k ≤ length (now s)) × (0 < length (now held)) ⌝ }
@@ -43,7 +36,7 @@ pub fn move_left(s: &mut [u8], held: &mut [u8], k: usize)
     let n = s.len() - k;
     let mut at = 0;
     while at < n {
-        let count = lesser(held.len(), n - at);
+        let count = layout::lesser(held.len(), n - at);
         hop(s, &mut held[..count], at + k, at);
         at += count;
     }
@@ -56,7 +49,7 @@ pub fn move_right(s: &mut [u8], held: &mut [u8], k: usize)
 {
     let mut end = s.len() - k;
     while 0 < end {
-        let count = lesser(held.len(), end);
+        let count = layout::lesser(held.len(), end);
         end -= count;
         hop(s, &mut held[..count], end, end + k);
     }

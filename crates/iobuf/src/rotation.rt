@@ -1,4 +1,4 @@
-// A slice of bytes turned left in place (the slices' rotate_left).
+// A slice of bytes turned left in place (the slices' rotate_left; D-8).
 //
 // A turn exchanges the shorter side with as many bytes of the longer, from the front on, and goes on with the rest. Once the shorter side has
 // at most 2,048 bytes the rest is shifted.
@@ -32,7 +32,7 @@ fn next(n: usize, k: usize) -> usize
     if k == rest {
         return k;
     }
-    let m = crate::moves::lesser(k, rest);
+    let m = layout::lesser(k, rest);
     if m <= 2048 { 0 } else { m }
 }
 

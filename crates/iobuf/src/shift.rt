@@ -64,7 +64,7 @@ pub fn shift(s: &mut [u8], k: usize)
         return;
     }
     if s.len() <= 16384 {
-        if crate::moves::lesser(k, s.len() - k) <= 512 {
+        if layout::lesser(k, s.len() - k) <= 512 {
             shift_narrow(s, k);
             return;
         }

@@ -3,6 +3,7 @@
 ghost use mathlib.Core.Path.{_≡_};
 ghost use mathlib.Core.Bool.{_&&_, _||_};
 ghost use Prim.Native.Nat;
+ghost use Prim.Native.Nat.{_-_};
 ghost use Rattle.layout.specs.Block.{isBlock, onBlock};
 
 // The smallest block (the Rust has it as MIN_LOG2_BLOCK).
@@ -36,6 +37,20 @@ pub fn min(a: u64, b: u64) -> u64
     ensures { λ r. ⌜ r ≡ Prim.Native.Nat.min a b ⌝ }
 {
     if a < b { a } else { b }
+}
+
+// The lesser of two lengths (usize::min).
+pub fn lesser(m: usize, n: usize) -> usize
+    ensures { λ r. ⌜ r ≡ Prim.Native.Nat.min m n ⌝ }
+{
+    if m < n { m } else { n }
+}
+
+// One less, and none below 0 (u64::saturating_sub).
+pub fn one_less(n: u64) -> u64
+    ensures { λ r. ⌜ r ≡ n - 1 ⌝ }
+{
+    if n == 0 { 0 } else { n - 1 }
 }
 
 // Both hold (&&, as a value, with no branch in the function that asks).

@@ -5,7 +5,6 @@ use mathlib.Core.Logic.{⊎-elim}
 use mathlib.Core.Bool.{Bool, true, false}
 use mathlib.Core.List.{List}
 use Prim.Native.Nat.{ℕ, _≤_, _<_}
-use native.Mathlib.Nat.{mod-eq-of-lt}
 use native.Mathlib.Decide.{decLe}
 use native.Mathlib.Omega.{arith}
 use lib.ListN.{length, getD, set, drop, length-set}
@@ -13,38 +12,17 @@ use lib.Seq.{drop-set-lt, getD-set-same, getD-set-other}
 use lib.Dec.{lit≤}
 use Rattle.layout.specs.Pick.{pick}
 use Rattle.layout.proofs.Tests.{true-or-false}
-use Rattle.domain.specs.declared.Op.{Op}
-use Rattle.domain.specs.declared.Op.the-variants.{None as noOp, Read as readOp, Write as writeOp, Flush as flushOp}
-use Rattle.domain.specs.declared.OsError.{OsError}
-use Rattle.domain.specs.declared.OsError.the-variants.{None as noError, Raw}
 use Rattle.domain.specs.declared.FirstCause.{FirstCause}
 use Rattle.domain.specs.declared.Poisoned.{Poisoned}
 use Rattle.domain.specs.declared.Poisoned.the-variants.{Never, First}
 use Rattle.domain.specs.Domain.{firstKept}
 use Rattle.model.specs.declared.Counts.{Counts}
-use Rattle.model.specs.Memory.{Lent, flag, opIn, errorIn, causeIn, opWord, hasWord, rawWord, ErrorFits, settingsIn, poisonIn, regionsIn, stateIn}
+use Rattle.model.specs.Memory.{Lent, flag, causeIn, opWord, hasWord, rawWord, ErrorFits, settingsIn, poisonIn, regionsIn, stateIn}
+use Rattle.model.proofs.Completions.{cause-read}
 use Rattle.step.specs.Step.{withPoison}
 use Rattle.marks.specs.Marks.{poisonedIn, withStore, PoisonLaws}
 use Rattle.marks.proofs.Words.{causeAt, new, poisoned-short, poisoned-first, poisoned-new}
 use Rattle.marks.proofs.Parts.{state-with}
-
--- ---- a cause is read back from its words
-
-op-read : (op : Op) → opIn (opWord op) ≡ op
-unfolding opIn opWord pick
-op-read noOp = refl
-op-read readOp = refl
-op-read writeOp = refl
-op-read flushOp = refl
-
-error-read : (e : OsError) → ErrorFits e → errorIn (hasWord e) (rawWord e) ≡ e
-unfolding errorIn hasWord rawWord ErrorFits flag pick
-error-read noError f = refl
-error-read (Raw n) f = ap Raw (mod-eq-of-lt f)
-
-cause-read : (e : FirstCause) → ErrorFits (e .raw) → causeIn (opWord (e .op)) (hasWord (e .raw)) (rawWord (e .raw)) ≡ e
-unfolding causeIn
-cause-read e f = λ i. record { op = op-read (e .op) i; raw = error-read (e .raw) f i }
 
 -- ---- the four words
 

@@ -1,7 +1,7 @@
 // The store's poison, written into its words (store-io's store.rs and domain/mod.rs: poison), and the call that reports it.
 ghost use mathlib.Core.Path.{_≡_};
-ghost use Rattle.model.specs.declared.Call.the-variants.{ReportPoison as reportPoison};
 ghost use Rattle.marks.specs.Marks.{poisonedIn, MarksTo};
+ghost use Rattle.model.specs.declared.Call.the-variants as Call;
 use completion::Reply;
 use domain::FirstCause;
 use model::Row;
@@ -28,7 +28,7 @@ pub fn poison(store: &mut [u64], cause: FirstCause)
 
 // "report poison with a cause (the first is kept)"
 pub fn report_poison(row: Row, store: &mut [u64], cause: FirstCause) -> Touched
-    ensures { λ r. ⌜ MarksTo (reportPoison cause) row (now (store .entry)) r (now (store .exit)) ⌝ }
+    ensures { λ r. ⌜ MarksTo (Call.ReportPoison cause) row (now (store .entry)) r (now (store .exit)) ⌝ }
 {
     poison(store, cause);
     Touched {

@@ -5,18 +5,19 @@ use Prim.Native.Nat.{ℕ, _+_, _*_, _≤_, _<_}
 use lib.ListN.{length, take, drop}
 use Rattle.model.specs.declared.Counts.{Counts}
 use Rattle.model.specs.State.{Region}
-use Rattle.model.specs.Memory.{Lent, regionIn, stateIn, settingsIn}
+use Rattle.model.specs.Memory.{Lent, regionIn, stateIn, settingsIn, GATE}
+use Rattle.model.specs.Opening.{HEAD, REGION}
 use Rattle.step.specs.Questions.{regionAt}
 use Rattle.memory.specs.declared.liveregion.LiveRegion.{LiveRegion}
 
 -- the words have a place for the region at handle h
 pub record InStore (store : List ℕ) (h : ℕ) : Type 0 where
   pub below : h < 8
-  pub room : 118 + 70 * h ≤ length store
+  pub room : HEAD + REGION + REGION * h ≤ length store
 
 -- the region there
 unfoldable pub regionOf : List ℕ → ℕ → Region
-regionOf store h = regionIn (take 3 (drop (24 + 3 * h) store)) (take 70 (drop (48 + 70 * h) store))
+regionOf store h = regionIn (take 3 (drop (GATE + 3 * h) store)) (take REGION (drop (HEAD + REGION * h) store))
 
 unfoldable pub liveOf : Region → LiveRegion
 liveOf g =

@@ -5,6 +5,7 @@ ghost use Prim.Native.Nat.{_+_, _*_, _≤_};
 ghost use lib.ListN.{length, take, drop, replicate};
 ghost use Rattle.model.specs.State.{upFrom};
 ghost use Rattle.model.specs.Memory.{storeOpened};
+ghost use Rattle.model.specs.Opening.{HEAD, REGION};
 use crate::HEAD;
 use crate::REGION;
 use crate::flag_word;
@@ -49,7 +50,7 @@ pub fn count_up(dst: &mut [u64], n: usize)
 
 // The settings, the lengths, no poison, open gates, and then the plan's regions.
 pub fn put_store(o: Opening, plan: &[u64], l: Lengths, store: &mut [u64])
-    requires { ⌜ (o .regions ≤ 8) × ((70 * o .regions ≤ length (now plan)) × (48 + 70 * o .regions ≤ length (now store))) ⌝ }
+    requires { ⌜ (o .regions ≤ 8) × ((REGION * o .regions ≤ length (now plan)) × (HEAD + REGION * o .regions ≤ length (now store))) ⌝ }
     ensures { λ _. ⌜ now (store .exit) ≡ storeOpened o (now (plan .entry)) l (now (store .entry)) ⌝ }
 {
     let read_only = flag_word(o.read_only);

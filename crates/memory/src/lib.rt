@@ -5,11 +5,13 @@
 // fill        what an opening writes
 // lengths     whether a later call lends as much as the opening
 // liveregion  a region's record, and the store's poison
+// piece       a piece, found by its region's map
 // settings    the opening's numbers
 pub mod causes;
 pub mod fill;
 pub mod lengths;
 pub mod liveregion;
+pub mod piece;
 pub mod settings;
 
 ghost use mathlib.Core.Path.{_≡_};

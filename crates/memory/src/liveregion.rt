@@ -4,6 +4,7 @@ ghost use Prim.Native.Nat.{_≤_};
 ghost use lib.ListN.{length};
 ghost use Rattle.model.specs.Memory.{gateIn, poisonIn};
 ghost use Rattle.memory.specs.Live.{InStore, regionOf, liveOf};
+ghost use Rattle.model.specs.Opening.{HEAD};
 use crate::CAUSE_HAS;
 use crate::CAUSE_OP;
 use crate::CAUSE_RAW;
@@ -16,7 +17,7 @@ use crate::REGION;
 use domain::Poisoned;
 use model::Gate;
 
-// What a submission is asked about its region: LiveRegion without its map, which stays where it lies.
+// What a submission is asked about its region: LiveRegion without its map, which stays where it lies (D-5).
 pub struct LiveRegion {
     pub id: u64,
     pub generation: u64,
@@ -69,7 +70,7 @@ pub fn region_at(store: &[u64], handle: u64) -> LiveRegion
 
 // Whether the store is poisoned, and by which cause first (Domain::poisoned); not poisoned where the words are too few.
 pub fn poisoned(store: &[u64]) -> Poisoned
-    ensures { λ r. ⌜ (48 ≤ length (now (store .entry)) → r ≡ poisonIn (now (store .entry))) ⌝ }
+    ensures { λ r. ⌜ (HEAD ≤ length (now (store .entry)) → r ≡ poisonIn (now (store .entry))) ⌝ }
 {
     if store.len() < HEAD {
         return Poisoned::Never;

@@ -24,6 +24,7 @@ use Rattle.model.specs.Memory.{flag, opIn, errorIn, causeIn, rangeIn, ti
 use Rattle.model.specs.State.{receiptFor}
 use Rattle.model.specs.Laws.{CompletionLaws}
 
+-- a cause is read back from its words
 op-read : (op : Op) → opIn (opWord op) ≡ op
 unfolding opIn opWord pick
 op-read noOp = refl
@@ -36,7 +37,7 @@ unfolding errorIn hasWord rawWord ErrorFits flag pick
 error-read noError f = refl
 error-read (Raw n) f = ap Raw (mod-eq-of-lt f)
 
-cause-read : (e : FirstCause) → ErrorFits (e .raw) → causeIn (opWord (e .op)) (hasWord (e .raw)) (rawWord (e .raw)) ≡ e
+pub cause-read : (e : FirstCause) → ErrorFits (e .raw) → causeIn (opWord (e .op)) (hasWord (e .raw)) (rawWord (e .raw)) ≡ e
 unfolding causeIn
 cause-read e f = λ i. record { op = op-read (e .op) i; raw = error-read (e .raw) f i }
 

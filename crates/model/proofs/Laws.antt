@@ -14,7 +14,8 @@ use lib.ListN.{length, getD, take, drop, length-append, length-take, length-drop
 use lib.Seq.{length-take-le, drop-drop, getD-take, getD-drop, ext-getD}
 use Rattle.layout.proofs.Tests.{and-left, and-right, and-both}
 use Rattle.regionmap.specs.Map.{Map, ascends, place}
-use Rattle.regionmap.specs.Words.{runsIn, mapIn, HoldsMap}
+use Rattle.regionmap.specs.Words.{runsIn, mapIn}
+use Rattle.regionmap.specs.Found.{HoldsMap}
 use Rattle.regionmap.specs.Laws.{Lawful}
 use Rattle.posix.specs.Transfer.{CardAndPool, Operation, wrote, readIn, whole, Accepted, Distinct, OneWrite, OneRead}
 use Rattle.posix.proofs.Theorem.{transfers}

@@ -17,7 +17,7 @@ use Rattle.model.specs.declared.Row.{Row}
 use Rattle.model.specs.State.{Region, State, Owner, Owner.host, freed, upFrom}
 use Rattle.model.specs.Opening.{Plan, atFirst, opened, planIn, plansIn, opens}
 use Rattle.model.specs.Memory.{Lent, lengthsOf, flag, settingsIn, lengthsIn, poisonIn, gateIn, regionIn, regionsIn, ownerIn, readyIn, stateIn, word01, storeHead, over, rowsOpened, storeOpened, freeOpened, readyOpened, ownersOpened, openedLent}
-use Rattle.model.specs.Laws.{fresh}
+use Rattle.model.specs.State.{fresh}
 use Rattle.model.proofs.Rules.{numbers-hold, plan-listed}
 
 flag-word : (b : Bool) → flag (word01 b) ≡ b

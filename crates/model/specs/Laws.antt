@@ -8,20 +8,17 @@ use mathlib.Core.List.{List, []}
 use Prim.Native.Nat.{ℕ, _+_, _-_, _*_, _^_, _≤_, _<_}
 use lib.ListN.{length, getD, take, drop}
 use Rattle.regionmap.specs.Map.{Map, place}
-use Rattle.regionmap.specs.Words.{wrap64, mapIn, HoldsMap}
+use Rattle.regionmap.specs.Words.{mapIn}
+use Rattle.regionmap.specs.Found.{wrap64, HoldsMap}
 use Rattle.regionmap.specs.Laws.{Lawful}
 use Rattle.posix.specs.Transfer.{CardAndPool, Operation, wrote, readIn, whole, OneWrite, OneRead}
 use Rattle.completion.specs.declared.Completion.{Completion}
-use Rattle.model.specs.declared.Opening.{Opening}
-use Rattle.model.specs.declared.Lengths.{Lengths}
-use Rattle.model.specs.declared.Counts.{Counts}
-use Rattle.model.specs.Opening.{opened, planIn, plansIn, opens, Plan, allTrue, regionRules}
+use Rattle.model.specs.declared.{Opening.Opening, Lengths.Lengths}
+use Rattle.model.specs.State.{fresh}
+use Rattle.model.specs.Opening.{opened, planIn, plansIn, opens, Plan, allTrue, regionRules, REGION}
 use Rattle.model.specs.Memory.{Lent, lengthsOf, sameLengths, stateIn, completionIn, completionWords, CompletionFits, storeOpened, openedLent}
+use Rattle.model.specs.Memory.{MAP, «MAP_WORDS»}
 use Rattle.model.specs.Meaning.{Numbers, Room}
-
--- the counts at first
-abbrev pub fresh : Counts
-fresh = record { live = 0; ready = 0; submissions = 0 }
 
 -- the map at place h of a list of plans
 abbrev pub mapOf : List Plan → ℕ → Map
@@ -49,7 +46,7 @@ OpenedMaps o plan = PlanMaps (o .card) (plansIn (o .regions) plan)
 
 -- the words of region h's map in the store of an opened table
 abbrev pub mapWordsAt : List ℕ → ℕ → List ℕ
-mapWordsAt store h = take 68 (drop (50 + 70 * h) store)
+mapWordsAt store h = take «MAP_WORDS» (drop (MAP + REGION * h) store)
 
 -- the operation of a range of region h in buffer b, over an opened table's pool
 abbrev pub operationAt : Opening → List ℕ → ℕ → ℕ → ℕ → ℕ → Operation

@@ -3,8 +3,7 @@ use mathlib.Core.Path.{_≡_}
 use mathlib.Core.Bool.{true}
 use Prim.Native.Nat.{_-_, _^_, _≤_}
 use Rattle.layout.specs.Block.{isBlock, onBlock}
-use Rattle.model.specs.declared.Opening.{Opening}
-use Rattle.model.specs.declared.Lengths.{Lengths}
+use Rattle.model.specs.declared.{Opening.Opening, Lengths.Lengths}
 use Rattle.model.specs.Opening.{storeWords, readyWords}
 
 pub record Numbers (o : Opening) : Type 0 where

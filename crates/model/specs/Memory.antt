@@ -1,5 +1,5 @@
 -- How the table lies in what the host lends: the row memory, which is the rows, the store's words, the free stack, the completions and the buffers'
--- owners; and the pool. Only these definitions and the code know the places.
+-- owners; and the pool (D-1). Only these definitions and the code know the places.
 --
 -- store    0 block, 1 depth, 2 lifetime, 3 card, 4 buffers, 5 capacity, 6 read-only, 7 flush policy, 8 volume, 9 class, 10 label, 11 epoch,
 --          12 regions; 13 to 18 the lengths of rows, store, free, ready, owners and pool; 19 to 22 poison: whether, operation, whether an error,
@@ -15,28 +15,17 @@ use lib.ListN.{length, getD, take, drop, replicate}
 use lib.Dec.{leb, eqb}
 use Rattle.layout.specs.Pick.{pick}
 use Rattle.regionmap.specs.Words.{positionOf}
-use Rattle.domain.specs.declared.Op.{Op}
+use Rattle.domain.specs.declared.{Op.Op, OsError.OsError, FirstCause.FirstCause, Poisoned.Poisoned}
 use Rattle.domain.specs.declared.Op.the-variants as Op
-use Rattle.domain.specs.declared.OsError.{OsError}
 use Rattle.domain.specs.declared.OsError.the-variants as OsError
-use Rattle.domain.specs.declared.FirstCause.{FirstCause}
-use Rattle.domain.specs.declared.Poisoned.{Poisoned}
 use Rattle.domain.specs.declared.Poisoned.the-variants as Poisoned
-use Rattle.completion.specs.declared.WriteTicket.{WriteTicket}
-use Rattle.completion.specs.declared.Range.{Range}
-use Rattle.completion.specs.declared.Outcome.{Outcome}
+use Rattle.completion.specs.declared.{WriteTicket.WriteTicket, Range.Range, Outcome.Outcome, Buffer.Buffer, Completion.Completion}
 use Rattle.completion.specs.declared.Outcome.the-variants as Outcome
-use Rattle.completion.specs.declared.Buffer.{Buffer}
 use Rattle.completion.specs.declared.Buffer.the-variants as Buffer
-use Rattle.completion.specs.declared.Completion.{Completion}
-use Rattle.model.specs.declared.Opening.{Opening}
-use Rattle.model.specs.declared.Lengths.{Lengths}
-use Rattle.model.specs.declared.Gate.{Gate}
+use Rattle.model.specs.declared.{Opening.Opening, Lengths.Lengths, Gate.Gate, Counts.Counts, Row.Row}
 use Rattle.model.specs.declared.Gate.the-variants as Gate
-use Rattle.model.specs.declared.Counts.{Counts}
-use Rattle.model.specs.declared.Row.{Row}
 use Rattle.model.specs.State.{Region, Owner, Owner.host, Owner.table, Owner.lost, State, freed, upFrom, receiptFor}
-use Rattle.model.specs.Opening.{opens, planIn}
+use Rattle.model.specs.Opening.{opens, planIn, HEAD, REGION}
 
 -- what the host lends
 pub record Lent : Type 0 where
@@ -59,6 +48,29 @@ lengthsOf l =
     }
 
 -- ---- a table in what is lent
+
+-- The places that other definitions name too, as the code does (memory): whether the store is poisoned, its first cause's operation, whether that
+-- has an error, the error; region 0's gate, with its two marks behind it; region 0's map, and a map's words.
+abbrev pub POISON : ℕ
+POISON = 19
+
+abbrev pub «CAUSE_OP» : ℕ
+«CAUSE_OP» = 20
+
+abbrev pub «CAUSE_HAS» : ℕ
+«CAUSE_HAS» = 21
+
+abbrev pub «CAUSE_RAW» : ℕ
+«CAUSE_RAW» = 22
+
+abbrev pub GATE : ℕ
+GATE = 24
+
+abbrev pub MAP : ℕ
+MAP = 50
+
+abbrev pub «MAP_WORDS» : ℕ
+«MAP_WORDS» = 68
 
 -- a flag in a word
 unfoldable pub flag : ℕ → Bool
@@ -89,7 +101,7 @@ lengthsIn s = record { rows = getD s 13 0; store = getD s 14 0; free = getD s 15
 -- them are another length too.
 unfoldable pub sameLengths : Lengths → List ℕ → Bool
 sameLengths l s =
-    leb 48 (length s) && (eqb (l .rows) (getD s 13 0) &&
+    leb HEAD (length s) && (eqb (l .rows) (getD s 13 0) &&
     (eqb (l .store) (getD s 14 0) && (eqb (l .free) (getD s 15 0)
     && (eqb (l .ready) (getD s 16 0) && (eqb (l .owners) (getD s 17 0) && eqb (l .pool) (getD s 18 0))))))
 
@@ -104,7 +116,8 @@ unfoldable pub causeIn : ℕ → ℕ → ℕ → FirstCause
 causeIn op has n = record { op = opIn op; raw = errorIn has n }
 
 unfoldable pub poisonIn : List ℕ → Poisoned
-poisonIn s = pick (flag (getD s 19 0)) (Poisoned.First (causeIn (getD s 20 0) (getD s 21 0) (getD s 22 0))) Poisoned.Never
+poisonIn s =
+    pick (flag (getD s POISON 0)) (Poisoned.First (causeIn (getD s «CAUSE_OP» 0) (getD s «CAUSE_HAS» 0) (getD s «CAUSE_RAW» 0))) Poisoned.Never
 
 unfoldable pub gateIn : ℕ → Gate
 gateIn n = pick (eqb n 0) Gate.Open (pick (eqb n 1) Gate.Recycled Gate.Released)
@@ -123,7 +136,7 @@ regionIn marks ws =
 
 unfoldable pub regionsIn : ℕ → List ℕ → List ℕ → List Region
 regionsIn zero marks ws = []
-regionsIn (suc n) marks ws = regionIn (take 3 marks) (take 70 ws) ∷ regionsIn n (drop 3 marks) (drop 70 ws)
+regionsIn (suc n) marks ws = regionIn (take 3 marks) (take REGION ws) ∷ regionsIn n (drop 3 marks) (drop REGION ws)
 
 unfoldable pub ownerIn : ℕ → Owner
 ownerIn n = pick (eqb n 0) host (pick (eqb n 1) table lost)
@@ -177,7 +190,7 @@ stateIn c l =
     record {
       settings = o;
       lengths = lengthsIn (l .store);
-      regions = regionsIn (o .regions) (drop 24 (l .store)) (drop 48 (l .store));
+      regions = regionsIn (o .regions) (drop GATE (l .store)) (drop HEAD (l .store));
       poison = poisonIn (l .store);
       counts = c;
       rows = take (o .depth) (l .rows);
@@ -301,7 +314,7 @@ unfoldable pub rowsOpened : ℕ → List Row → List Row
 rowsOpened depth rows = over (replicate depth (freed 0)) rows
 
 unfoldable pub storeOpened : Opening → List ℕ → Lengths → List ℕ → List ℕ
-storeOpened o plan l store = over (storeHead o l ++ take (70 * o .regions) plan) store
+storeOpened o plan l store = over (storeHead o l ++ take (REGION * o .regions) plan) store
 
 unfoldable pub freeOpened : ℕ → List ℕ → List ℕ
 freeOpened depth free = over (upFrom 0 depth) free

@@ -8,10 +8,9 @@ use Rattle.layout.specs.Block.{isBlock, onBlock}
 use Rattle.regionmap.specs.Map.{Run, Map, ascends, Extent, extents, allApart, allWithin}
 use Rattle.regionmap.specs.Words.{mapIn}
 use Rattle.domain.specs.declared.Poisoned.the-variants as Poisoned
-use Rattle.model.specs.declared.Opening.{Opening}
-use Rattle.model.specs.declared.Lengths.{Lengths}
+use Rattle.model.specs.declared.{Opening.Opening, Lengths.Lengths}
 use Rattle.model.specs.declared.Gate.the-variants as Gate
-use Rattle.model.specs.State.{Region, State, Owner.host, freed, upFrom}
+use Rattle.model.specs.State.{Region, State, Owner.host, fresh, freed, upFrom}
 
 -- a region as the opening is given it
 pub record Plan : Type 0 where
@@ -19,13 +18,16 @@ pub record Plan : Type 0 where
   pub generation : ℕ
   pub map : Map
 
--- it lies in the words that the host hands over: 70 a region
+-- it lies in the words that the host hands over, as many a region as in the store: id, generation, map
+abbrev pub REGION : ℕ
+REGION = 70
+
 unfoldable pub planIn : List ℕ → Plan
 planIn ws = record { id = getD ws 0 0; generation = getD ws 1 0; map = mapIn (drop 2 ws) }
 
 unfoldable pub plansIn : ℕ → List ℕ → List Plan
 plansIn zero ws = []
-plansIn (suc n) ws = planIn (take 70 ws) ∷ plansIn n (drop 70 ws)
+plansIn (suc n) ws = planIn (take REGION ws) ∷ plansIn n (drop REGION ws)
 
 abbrev pub between : ℕ → ℕ → ℕ → Bool
 between lo hi x = leb lo x && leb x hi
@@ -121,10 +123,13 @@ withinRule o ps = allWithin (o .card) (allExtents ps)
 abbrev pub cardRule : Opening → Bool
 cardRule o = leb (o .card) (2 ^ 63 - 1)
 
--- How long the row memory has to be is ours to choose (README): a record for each row; the settings, the regions' marks and the regions in the
+-- How long the row memory has to be is ours to choose (README, D-2): a record for each row; the settings, the regions' marks and the regions in the
 -- store's words; a word of the free stack for each row; one word and sixteen for each row of the completions; a word for each buffer's owner.
+abbrev pub HEAD : ℕ
+HEAD = 48
+
 abbrev pub storeWords : ℕ → ℕ
-storeWords n = 48 + 70 * n
+storeWords n = HEAD + REGION * n
 
 abbrev pub readyWords : ℕ → ℕ
 readyWords d = 1 + 16 * d
@@ -165,7 +170,7 @@ admits o listed ps l = allTrue (numberRules o) && (allTrue (lengthRules o listed
 
 -- the plan lists as many regions as the opening says
 unfoldable pub listed : Opening → List ℕ → Bool
-listed o ws = leb (70 * o .regions) (length ws)
+listed o ws = leb (REGION * o .regions) (length ws)
 
 -- all rules of an opening hold
 unfoldable pub opens : Opening → List ℕ → Lengths → Bool
@@ -183,7 +188,7 @@ opened o ps l pool =
       lengths = l;
       regions = map atFirst ps;
       poison = Poisoned.Never;
-      counts = record { live = 0; ready = 0; submissions = 0 };
+      counts = fresh;
       rows = replicate (o .depth) (freed 0);
       free = upFrom 0 (o .depth);
       ready = [];

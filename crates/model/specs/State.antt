@@ -5,16 +5,9 @@ use Prim.Native.Nat.{ℕ, zero, suc, _+_, _-_, _^_}
 use lib.Dec.{eqb}
 use Rattle.regionmap.specs.Map.{Map}
 use Rattle.domain.specs.declared.Poisoned.{Poisoned}
-use Rattle.completion.specs.declared.WriteTicket.{WriteTicket}
-use Rattle.completion.specs.declared.DurableReceipt.{DurableReceipt}
-use Rattle.completion.specs.declared.Completion.{Completion}
-use Rattle.model.specs.declared.Opening.{Opening}
-use Rattle.model.specs.declared.Lengths.{Lengths}
-use Rattle.model.specs.declared.Gate.{Gate}
+use Rattle.completion.specs.declared.{WriteTicket.WriteTicket, DurableReceipt.DurableReceipt, Completion.Completion}
+use Rattle.model.specs.declared.{Opening.Opening, Lengths.Lengths, Gate.Gate, Counts.Counts, Row.Row, Awaits.Awaits}
 use Rattle.model.specs.declared.Gate.the-variants as Gate
-use Rattle.model.specs.declared.Counts.{Counts}
-use Rattle.model.specs.declared.Row.{Row}
-use Rattle.model.specs.declared.Awaits.{Awaits}
 use Rattle.model.specs.declared.Awaits.the-variants as Awaits
 
 -- "A region has a generation (32 bits), a first card offset, up to 32 further runs (start position, card offset), a positive capacity and a
@@ -43,6 +36,10 @@ noRegion =
 -- never accepted again."
 pub data Owner : Type 0 where
   host table lost : Owner
+
+-- the counts at first
+abbrev pub fresh : Counts
+fresh = record { live = 0; ready = 0; submissions = 0 }
 
 pub record State : Type 0 where
   -- the opening's numbers, and the lengths of what was lent

@@ -27,7 +27,7 @@ pub enum Awaits {
     Flush(WriteTicket),
 }
 
-// One row (optable.rs's Row and Live). A row that awaits nothing keeps only its generation: the rest is zero.
+// One row (optable.rs's Row and Live). A row that awaits nothing keeps only its generation: the rest is zero (D-4, D-11).
 pub struct Row {
     pub generation: u32,
     pub tag: u64,
@@ -92,7 +92,7 @@ pub struct Request {
     pub tag: u64,
 }
 
-// What a host calls, once a table is open; the lookups are apart, as they change nothing.
+// What a host calls, once a table is open; the lookups are apart, as they change nothing (D-25).
 pub enum Call {
     Write(Request),
     ReadPage(Request),

@@ -1,4 +1,5 @@
--- Walks through the regions and the runs of a plan.
+-- Walks through the regions and the runs of a plan, and what an opening leaves and replies.
 pub mod Walk
 pub mod Steps
 pub mod CardRuns
+pub mod Opens

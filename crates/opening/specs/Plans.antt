@@ -2,10 +2,10 @@
 use mathlib.Core.List.{List, map}
 use Prim.Native.Nat.{ℕ, _-_, _*_}
 use lib.ListN.{drop}
-use Rattle.model.specs.Opening.{Plan, plansIn}
+use Rattle.model.specs.Opening.{Plan, plansIn, REGION}
 
 abbrev pub plansFrom : List ℕ → ℕ → ℕ → List Plan
-plansFrom ws n h = plansIn (n - h) (drop (70 * h) ws)
+plansFrom ws n h = plansIn (n - h) (drop (REGION * h) ws)
 
 abbrev pub idsFrom : List ℕ → ℕ → ℕ → List ℕ
 idsFrom ws n h = map (λ p. p .id) (plansFrom ws n h)

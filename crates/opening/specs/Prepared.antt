@@ -1,18 +1,12 @@
 -- What `prepare` leaves: an admitted opening writes the front of each part of the row memory but the rows, and replies with the depth; a refused
--- one changes nothing and replies with 0. For the code: the reply that a host gets is the submitter's Open.
+-- one changes nothing and replies with 0. For the code: the reply that a host gets is Opened's.
 use mathlib.Core.Path.{_≡_}
 use mathlib.Core.List.{List}
 use Prim.Native.Nat.{ℕ}
-use lib.ListN.{length}
 use Rattle.layout.specs.Pick.{pick}
-use Rattle.model.specs.declared.Opening.{Opening}
-use Rattle.model.specs.declared.Lengths.{Lengths}
+use Rattle.model.specs.declared.{Opening.Opening, Lengths.Lengths}
 use Rattle.model.specs.Memory.{storeOpened, freeOpened, readyOpened, ownersOpened}
 use Rattle.model.specs.Opening.{opens}
-
-abbrev pub lengthsWith : ℕ → List ℕ → List ℕ → List ℕ → List ℕ → ℕ → Lengths
-lengthsWith rows store free ready owners pool =
-    record { rows = rows; store = length store; free = length free; ready = length ready; owners = length owners; pool = pool }
 
 pub record Prepared (o : Opening) (plan : List ℕ) (l : Lengths) (depth : ℕ)
     (store free ready owners store′ free′ ready′ owners′ : List ℕ) : Type 0 where

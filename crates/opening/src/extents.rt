@@ -1,5 +1,5 @@
-// The opening's rules on card bytes: "No two runs share a card byte, and all lie within the card's size." The runs of all regions of a plan are
-// counted through in one row, region 0's first: the k-th lies where the k-th of allExtents (the model's Opening) says.
+// The opening's rules on card bytes: "No two runs share a card byte, and all lie within the card's size, at most 2^63 − 1." The runs of all regions
+// of a plan are counted through in one row, region 0's first: the k-th lies where the k-th of allExtents (the model's Opening) says.
 ghost use mathlib.Core.Path.{_≡_};
 ghost use Prim.Native.Nat.{ℕ, _+_, _-_, _*_, _≤_, _<_};
 ghost use lib.ListN.{length, getD, take, drop};
@@ -7,7 +7,7 @@ ghost use lib.Dec.{leb, ltb};
 ghost use Rattle.layout.specs.Pick.{pick};
 ghost use Rattle.regionmap.specs.Map.{extents, apart, apartFrom, allApart, allWithin};
 ghost use Rattle.regionmap.specs.Words.{mapIn};
-ghost use Rattle.model.specs.Opening.{allExtents, plansIn};
+ghost use Rattle.model.specs.Opening.{allExtents, plansIn, REGION};
 use memory::REGION;
 
 // The card bytes of a run: its offset there, and how many they are.
@@ -52,16 +52,17 @@ fn run_of_map(map: &[u64], j: usize) -> CardRun
 
 // How many further runs the h-th region has.
 fn further_runs(plan: &[u64], h: usize) -> usize
-    requires { ⌜ 70 * h + 70 ≤ length (now plan) ⌝ }
-    ensures { λ r. ⌜ r ≡ getD (now (plan .entry)) (70 * h + 5) 0 ⌝ }
+    requires { ⌜ REGION * h + REGION ≤ length (now plan) ⌝ }
+    ensures { λ r. ⌜ r ≡ getD (now (plan .entry)) (REGION * h + 5) 0 ⌝ }
 {
     plan[REGION * h + 5] as usize
 }
 
 // The card bytes of the j-th run of the h-th region.
 fn run_of_region(plan: &[u64], h: usize, j: usize) -> CardRun
-    requires { ⌜ (70 * h + 70 ≤ length (now plan)) × ((getD (now plan) (70 * h + 5) 0 ≤ 32) × (j ≤ getD (now plan) (70 * h + 5) 0)) ⌝ }
-    ensures { λ r. ⌜ getD (extents (mapIn (drop 2 (take 70 (drop (70 * h) (now (plan .entry))))))) j (record { offset = 0; size = 0 })
+    requires { ⌜ (REGION * h + REGION ≤ length (now plan)) ×
+        ((getD (now plan) (REGION * h + 5) 0 ≤ 32) × (j ≤ getD (now plan) (REGION * h + 5) 0)) ⌝ }
+    ensures { λ r. ⌜ getD (extents (mapIn (drop 2 (take REGION (drop (REGION * h) (now (plan .entry))))))) j (record { offset = 0; size = 0 })
         ≡ record { offset = r .offset; size = r .size } ⌝ }
 {
     let at = REGION * h;
@@ -71,7 +72,7 @@ fn run_of_region(plan: &[u64], h: usize, j: usize) -> CardRun
 
 // How many runs all regions have.
 fn run_count(plan: &[u64], regions: usize) -> usize
-    requires { ⌜ (70 * regions ≤ length (now plan)) × ((h : ℕ) → h < regions → getD (now plan) (70 * h + 5) 0 ≤ 32) ⌝ }
+    requires { ⌜ (REGION * regions ≤ length (now plan)) × ((h : ℕ) → h < regions → getD (now plan) (REGION * h + 5) 0 ≤ 32) ⌝ }
     ensures { λ r. ⌜ r ≡ length (allExtents (plansIn regions (now (plan .entry)))) ⌝ }
 {
     let mut count: usize = 0;
@@ -85,7 +86,7 @@ fn run_count(plan: &[u64], regions: usize) -> usize
 
 // The card bytes of the k-th run of all regions, none where there are not as many.
 fn run_of_plan(plan: &[u64], regions: usize, k: usize) -> CardRun
-    requires { ⌜ (70 * regions ≤ length (now plan)) × ((h : ℕ) → h < regions → getD (now plan) (70 * h + 5) 0 ≤ 32) ⌝ }
+    requires { ⌜ (REGION * regions ≤ length (now plan)) × ((h : ℕ) → h < regions → getD (now plan) (REGION * h + 5) 0 ≤ 32) ⌝ }
     ensures { λ r. ⌜ getD (allExtents (plansIn regions (now (plan .entry)))) k (record { offset = 0; size = 0 })
         ≡ record { offset = r .offset; size = r .size } ⌝ }
 {
@@ -124,7 +125,7 @@ fn two_apart(a: CardRun, b: CardRun) -> bool
 
 // "and all lie within the card's size"
 pub fn within_rule(plan: &[u64], regions: usize, card: u64) -> bool
-    requires { ⌜ (70 * regions ≤ length (now plan)) × ((h : ℕ) → h < regions → getD (now plan) (70 * h + 5) 0 ≤ 32) ⌝ }
+    requires { ⌜ (REGION * regions ≤ length (now plan)) × ((h : ℕ) → h < regions → getD (now plan) (REGION * h + 5) 0 ≤ 32) ⌝ }
     ensures { λ r. ⌜ r ≡ allWithin card (allExtents (plansIn regions (now (plan .entry)))) ⌝ }
 {
     let count = run_count(plan, regions);
@@ -140,7 +141,7 @@ pub fn within_rule(plan: &[u64], regions: usize, card: u64) -> bool
 
 // The k-th run is apart from each behind it.
 fn apart_behind(plan: &[u64], regions: usize, count: usize, k: usize) -> bool
-    requires { ⌜ (70 * regions ≤ length (now plan)) × (((h : ℕ) → h < regions → getD (now plan) (70 * h + 5) 0 ≤ 32)
+    requires { ⌜ (REGION * regions ≤ length (now plan)) × (((h : ℕ) → h < regions → getD (now plan) (REGION * h + 5) 0 ≤ 32)
         × ((count ≡ length (allExtents (plansIn regions (now plan)))) × (k < count))) ⌝ }
     ensures { λ r. ⌜ r ≡ apartFrom (getD (allExtents (plansIn regions (now (plan .entry)))) k (record { offset = 0; size = 0 }))
         (drop (k + 1) (allExtents (plansIn regions (now (plan .entry))))) ⌝ }
@@ -158,7 +159,7 @@ fn apart_behind(plan: &[u64], regions: usize, count: usize, k: usize) -> bool
 
 // "No two runs share a card byte"
 pub fn apart_rule(plan: &[u64], regions: usize) -> bool
-    requires { ⌜ (70 * regions ≤ length (now plan)) × ((h : ℕ) → h < regions → getD (now plan) (70 * h + 5) 0 ≤ 32) ⌝ }
+    requires { ⌜ (REGION * regions ≤ length (now plan)) × ((h : ℕ) → h < regions → getD (now plan) (REGION * h + 5) 0 ≤ 32) ⌝ }
     ensures { λ r. ⌜ r ≡ allApart (allExtents (plansIn regions (now (plan .entry)))) ⌝ }
 {
     let count = run_count(plan, regions);

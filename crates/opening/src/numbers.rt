@@ -1,6 +1,6 @@
 // The opening's rules on numbers and lengths: each function is the definition of its name in the model's Opening.
 ghost use mathlib.Core.Path.{_≡_};
-ghost use Rattle.model.specs.Opening.{between, allTrue, numberRules, lengthRules, capacityRule};
+ghost use Rattle.model.specs.Opening.{between, allTrue, numberRules, lengthRules, capacityRule, REGION};
 ghost use Prim.Native.Nat.{_*_, _≤_};
 ghost use lib.Dec.{leb};
 use layout::both;
@@ -42,7 +42,7 @@ pub(crate) fn numbers(o: Opening) -> bool
 // "the pool holds exactly count × capacity bytes", and "the row memory long enough".
 pub(crate) fn lengths(o: Opening, l: Lengths, plan: u64) -> bool
     requires { ⌜ (o .buffers ≤ 4096) × ((o .capacity ≤ 65536) × ((o .depth ≤ 4096) × (o .regions ≤ 8))) ⌝ }
-    ensures { λ r. ⌜ r ≡ allTrue (lengthRules o (leb (70 * o .regions) plan) l) ⌝ }
+    ensures { λ r. ⌜ r ≡ allTrue (lengthRules o (leb (REGION * o .regions) plan) l) ⌝ }
 {
     let bytes = o.buffers * o.capacity;
     let ready = 1 + 16 * o.depth;

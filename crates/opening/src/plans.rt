@@ -7,8 +7,9 @@ ghost use lib.ListN.{length, getD, drop};
 ghost use Rattle.layout.specs.Block.{onBlock};
 ghost use Rattle.regionmap.specs.Map.{ascends};
 ghost use Rattle.regionmap.specs.Words.{runsIn, mapIn};
-ghost use Rattle.model.specs.Opening.{runsOnBlock, blocksRule, mapRule, regionRule, eachRegion, among, idsRule, planIn, plansIn};
+ghost use Rattle.model.specs.Opening.{runsOnBlock, blocksRule, mapRule, regionRule, eachRegion, among, idsRule, planIn, plansIn, REGION};
 ghost use Rattle.opening.specs.Plans.{idsFrom};
+ghost use Rattle.model.specs.Memory.{«MAP_WORDS»};
 use layout::both;
 use memory::REGION;
 
@@ -78,7 +79,7 @@ fn blocks_rule(map: &[u64], count: usize, block: u64) -> bool
 
 // The rules on one region's map.
 fn map_rule(map: &[u64], block: u64) -> bool
-    requires { ⌜ length (now map) ≡ 68 ⌝ }
+    requires { ⌜ length (now map) ≡ «MAP_WORDS» ⌝ }
     ensures { λ r. ⌜ r ≡ mapRule block (mapIn (now (map .entry))) ⌝ }
 {
     let runs = map[3];
@@ -93,7 +94,7 @@ fn map_rule(map: &[u64], block: u64) -> bool
 
 // The rules on one region, whose words these are.
 fn region_rule(region: &[u64], block: u64) -> bool
-    requires { ⌜ length (now region) ≡ 70 ⌝ }
+    requires { ⌜ length (now region) ≡ REGION ⌝ }
     ensures { λ r. ⌜ r ≡ regionRule block (planIn (now (region .entry))) ⌝ }
 {
     let generation = region[1];
@@ -102,7 +103,7 @@ fn region_rule(region: &[u64], block: u64) -> bool
 
 // The rules on each region of the plan.
 pub fn each_region(plan: &[u64], regions: usize, block: u64) -> bool
-    requires { ⌜ (70 * regions ≤ length (now plan)) × (regions ≤ 8) ⌝ }
+    requires { ⌜ (REGION * regions ≤ length (now plan)) × (regions ≤ 8) ⌝ }
     ensures { λ r. ⌜ r ≡ eachRegion block (plansIn regions (now (plan .entry))) ⌝ }
 {
     let mut h: usize = 0;
@@ -119,7 +120,7 @@ pub fn each_region(plan: &[u64], regions: usize, block: u64) -> bool
 
 // Whether a region from the one at `from` on has the id.
 fn id_among(plan: &[u64], from: usize, regions: usize, id: u64) -> bool
-    requires { ⌜ (70 * regions ≤ length (now plan)) × ((regions ≤ 8) × (from ≤ regions)) ⌝ }
+    requires { ⌜ (REGION * regions ≤ length (now plan)) × ((regions ≤ 8) × (from ≤ regions)) ⌝ }
     ensures { λ r. ⌜ r ≡ among id (idsFrom (now (plan .entry)) regions from) ⌝ }
 {
     let mut h = from;
@@ -134,7 +135,7 @@ fn id_among(plan: &[u64], from: usize, regions: usize, id: u64) -> bool
 
 // "distinct ids": no region has the id of one behind it.
 pub fn ids_rule(plan: &[u64], regions: usize) -> bool
-    requires { ⌜ (70 * regions ≤ length (now plan)) × (regions ≤ 8) ⌝ }
+    requires { ⌜ (REGION * regions ≤ length (now plan)) × (regions ≤ 8) ⌝ }
     ensures { λ r. ⌜ r ≡ idsRule (plansIn regions (now (plan .entry))) ⌝ }
 {
     let mut h: usize = 0;

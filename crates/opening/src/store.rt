@@ -1,5 +1,6 @@
 // What an opening writes (store-io's store.rs and optable.rs: Table::new): nothing where a rule is broken, else the table, into what is lent.
-ghost use Rattle.opening.specs.Prepared.{lengthsWith, Prepared};
+ghost use Rattle.memory.specs.Lengths.{lengthsWith};
+ghost use Rattle.opening.specs.Prepared.{Prepared};
 use model::Lengths;
 use model::Opening;
 

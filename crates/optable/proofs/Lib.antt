@@ -12,3 +12,4 @@ pub mod Counted
 pub mod Chosen
 pub mod Found
 pub mod Turning
+pub mod Looking

@@ -4,22 +4,17 @@ use mathlib.Core.Bool.{true, false}
 use mathlib.Core.List.{List}
 use Prim.Native.Nat.{ℕ}
 use lib.ListN.{length, getD, drop, set}
-use Rattle.completion.specs.declared.Refusal.{Refusal}
-use Rattle.completion.specs.declared.Refusal.the-variants.{Unfit}
-use Rattle.completion.specs.declared.Reply.{Reply}
-use Rattle.completion.specs.declared.Reply.the-variants.{No as turnedAway}
-use Rattle.model.specs.declared.Opening.{Opening}
-use Rattle.model.specs.declared.Counts.{Counts}
-use Rattle.model.specs.declared.Row.{Row}
-use Rattle.model.specs.declared.Call.{Call}
-use Rattle.model.specs.declared.Call.the-variants.{Write, ReadPage, Answer, Flushed, Take, SetGate, SetReadOnly, SetForced, ReportPoison}
-use Rattle.model.specs.declared.Lookup.{Lookup}
+use Rattle.completion.specs.declared.{Refusal.Refusal, Reply.Reply}
+use Rattle.completion.specs.declared.Refusal.the-variants as Refusal
+use Rattle.completion.specs.declared.Reply.the-variants as Reply
+use Rattle.model.specs.declared.{Opening.Opening, Counts.Counts, Row.Row, Call.Call, Lookup.Lookup}
+use Rattle.model.specs.declared.Call.the-variants as Call
 use Rattle.model.specs.State.{freed}
 use Rattle.model.specs.Opening.{storeWords, readyWords}
 use Rattle.model.specs.Memory.{Lent, lengthsOf, sameLengths, settingsIn, stateIn}
 use Rattle.step.specs.Step.{rowOf, step, look}
 use Rattle.step.specs.Sound.{Sound}
-use Rattle.optable.specs.declared.Frees.the-variants.{Nothing as none}
+use Rattle.optable.specs.declared.Frees.the-variants as Frees
 use Rattle.optable.specs.Counted.{acceptedIf, releasedBy}
 use Rattle.optable.specs.declared.touched.Touched.{Touched}
 
@@ -29,20 +24,20 @@ lentOf rows store free ready owners pool = record { rows = rows; store = store; 
 
 -- a call that is turned away
 unfoldable pub awayWith : Row → Refusal → Touched
-awayWith row f = record { row = row; accepts = false; frees = none; reply = turnedAway f }
+awayWith row f = record { row = row; accepts = false; frees = Frees.Nothing; reply = Reply.No f }
 
 -- the place of the row that a call touches: of a submission the one on top of the free stack, of an answer or a flush result the one that its
 -- tag names; of the other calls, which touch none, 0
 unfoldable pub placeOf : Call → Counts → List ℕ → ℕ
-placeOf (Write q) c free = getD free (c .live) 0
-placeOf (ReadPage q) c free = getD free (c .live) 0
-placeOf (Answer t answer back flushes) c free = rowOf t
-placeOf (Flushed t result) c free = rowOf t
-placeOf Take c free = 0
-placeOf (SetGate h x) c free = 0
-placeOf (SetReadOnly h x) c free = 0
-placeOf (SetForced h x) c free = 0
-placeOf (ReportPoison cause) c free = 0
+placeOf (Call.Write q) c free = getD free (c .live) 0
+placeOf (Call.ReadPage q) c free = getD free (c .live) 0
+placeOf (Call.Answer t answer back flushes) c free = rowOf t
+placeOf (Call.Flushed t result) c free = rowOf t
+placeOf Call.Take c free = 0
+placeOf (Call.SetGate h x) c free = 0
+placeOf (Call.SetReadOnly h x) c free = 0
+placeOf (Call.SetForced h x) c free = 0
+placeOf (Call.ReportPoison cause) c free = 0
 
 -- nothing lent beyond what the table needs is written, and no length changes
 pub record Beyond (o : Opening) (l l′ : Lent) : Type 0 where
@@ -55,16 +50,16 @@ pub record Beyond (o : Opening) (l l′ : Lent) : Type 0 where
 
 pub record CallsTo (call : Call) (c : Counts) (l : Lent) (r : Reply) (c′ : Counts) (l′ : Lent) : Type 0 where
   -- "A later call with another length of row memory or pool gets 13 first."
-  pub another-length : sameLengths (lengthsOf l) (l .store) ≡ false → r ≡ turnedAway Unfit
+  pub another-length : sameLengths (lengthsOf l) (l .store) ≡ false → r ≡ Reply.No Refusal.Unfit
   -- a call that is turned away changes nothing: no count, no row, no word, no byte
-  pub turned-away : (f : Refusal) → r ≡ turnedAway f → (c′ ≡ c) × (l′ ≡ l)
+  pub turned-away : (f : Refusal) → r ≡ Reply.No f → (c′ ≡ c) × (l′ ≡ l)
   -- of every table that calls have left: the reply and the next state are the step's
   pub as-step : Sound (stateIn c l) → step (stateIn c l) (lengthsOf l) call ≡ (stateIn c′ l′, r)
   pub beyond : Sound (stateIn c l) → Beyond (settingsIn (l .store)) l l′
 
 -- what a lookup gives: it changes nothing
 pub record LooksTo (x : Lookup) (c : Counts) (l : Lent) (r : Reply) : Type 0 where
-  pub another-length : sameLengths (lengthsOf l) (l .store) ≡ false → r ≡ turnedAway Unfit
+  pub another-length : sameLengths (lengthsOf l) (l .store) ≡ false → r ≡ Reply.No Refusal.Unfit
   pub as-look : Sound (stateIn c l) → r ≡ look (stateIn c l) (lengthsOf l) x
 
 -- with any rows among which the given one is the one to touch, the call as a whole

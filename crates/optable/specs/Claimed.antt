@@ -6,14 +6,14 @@ use lib.ListN.{set}
 use Rattle.layout.specs.Pick.{pick}
 use Rattle.model.specs.declared.Row.{Row}
 use Rattle.optable.specs.declared.Frees.{Frees}
-use Rattle.optable.specs.declared.Frees.the-variants.{Nothing, Rejected, Completed, Taken}
+use Rattle.optable.specs.declared.Frees.the-variants as Frees
 
 -- whether the call gives its row back: its first piece was refused, or it is completed. A completion that is taken has given its row back before.
 unfoldable pub freesRow : Frees → Bool
-freesRow Nothing = false
-freesRow Rejected = true
-freesRow Completed = true
-freesRow Taken = false
+freesRow Frees.Nothing = false
+freesRow Frees.Rejected = true
+freesRow Frees.Completed = true
+freesRow Frees.Taken = false
 
 -- how many of n rows a claim may write, and a release
 unfoldable pub claimableOf : Frees → ℕ → ℕ

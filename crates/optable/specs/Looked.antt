@@ -4,21 +4,19 @@ use mathlib.Core.List.{List, [], _∷_}
 use Prim.Native.Nat.{ℕ, _+_, min}
 use lib.Dec.{eqb}
 use Rattle.layout.specs.Pick.{pick}
-use Rattle.regionmap.specs.Words.{wrap64}
+use Rattle.regionmap.specs.Found.{wrap64}
+use Rattle.completion.specs.declared.Refusal.the-variants as Refusal
 use Rattle.completion.specs.declared.Reply.{Reply}
-use Rattle.completion.specs.declared.Reply.the-variants.{Writes, Mark}
-use Rattle.model.specs.declared.Counts.{Counts}
-use Rattle.model.specs.declared.Kind.{Kind}
-use Rattle.model.specs.declared.Kind.the-variants.{Page, Read}
-use Rattle.model.specs.declared.Row.{Row}
-use Rattle.model.specs.declared.Lookup.{Lookup}
-use Rattle.model.specs.declared.Lookup.the-variants.{WritesLive, Mark as MarkNow}
+use Rattle.completion.specs.declared.Reply.the-variants as Reply
+use Rattle.model.specs.declared.{Counts.Counts, Kind.Kind, Row.Row, Lookup.Lookup}
+use Rattle.model.specs.declared.Kind.the-variants as Kind
+use Rattle.model.specs.declared.Lookup.the-variants as Lookup
 use Rattle.step.specs.Step.{writesIn, isLive, anyWrites, oldest}
 use Rattle.optable.specs.declared.lookup.Looked.{Looked}
 
 unfoldable pub isPage : Kind → Bool
-isPage (Page a b) = true
-isPage (Read a b) = false
+isPage (Kind.Page a b) = true
+isPage (Kind.Read a b) = false
 
 -- what is found with one row more
 unfoldable pub seenBy : Row → Looked → Looked
@@ -33,5 +31,9 @@ unfoldable pub markWrapped : Counts → ℕ → ℕ
 markWrapped c n = pick (eqb (c .live) 0) (wrap64 (c .submissions + c .submissions)) (wrap64 (wrap64 (n + n) + 1))
 
 unfoldable pub repliesAs : Lookup → Counts → Looked → Reply
-repliesAs WritesLive c l = Writes (l .writes)
-repliesAs MarkNow c l = Mark (markWrapped c (l .oldest))
+repliesAs Lookup.WritesLive c l = Reply.Writes (l .writes)
+repliesAs Lookup.Mark c l = Reply.Mark (markWrapped c (l .oldest))
+
+-- the reply by whether the lengths are the opening's
+unfoldable pub answerOf : Bool → Lookup → Counts → Looked → Reply
+answerOf fits x c l = pick fits (repliesAs x c l) (Reply.No Refusal.Unfit)

@@ -12,7 +12,6 @@ pub mod start;
 pub mod touched;
 
 ghost use mathlib.Core.Path.{_≡_};
-ghost use Prim.Native.Nat.{_-_, min};
 ghost use lib.ListN.{getD};
 ghost use Rattle.model.specs.State.{freed};
 ghost use Rattle.optable.specs.Counted.{acceptedIf, releasedBy};
@@ -35,13 +34,6 @@ pub fn freed_row(generation: u32) -> Row
     }
 }
 
-// The smaller of two numbers.
-pub fn smaller(a: usize, b: usize) -> usize
-    ensures { λ r. ⌜ r ≡ min a b ⌝ }
-{
-    if a < b { a } else { b }
-}
-
 // The row on top of the free stack (the pop of Table::claim); 0 where there is none.
 pub fn top(free: &[u64], live: u64) -> u64
     ensures { λ r. ⌜ r ≡ getD (now (free .entry)) live 0 ⌝ }
@@ -50,7 +42,7 @@ pub fn top(free: &[u64], live: u64) -> u64
     if at < free.len() { free[at] } else { 0 }
 }
 
-// One live row and one submission more, or the counts as they were.
+// One live row and one submission more, or the counts as they were; they wrap (D-19).
 pub fn accepted(c: Counts, accepts: bool) -> Counts
     ensures { λ r. ⌜ r ≡ acceptedIf accepts c ⌝ }
 {
@@ -74,13 +66,6 @@ pub enum Frees {
     Taken,
 }
 
-// One less, and none below 0.
-fn one_less(n: u64) -> u64
-    ensures { λ r. ⌜ r ≡ n - 1 ⌝ }
-{
-    if n == 0 { 0 } else { n - 1 }
-}
-
 // The counts with what a call frees.
 pub fn released(c: Counts, r: Frees) -> Counts
     ensures { λ r′. ⌜ r′ ≡ releasedBy r c ⌝ }
@@ -88,18 +73,18 @@ pub fn released(c: Counts, r: Frees) -> Counts
     match r {
         Frees::Nothing => c,
         Frees::Rejected => Counts {
-            live: one_less(c.live),
+            live: layout::one_less(c.live),
             ready: c.ready,
             submissions: c.submissions,
         },
         Frees::Completed => Counts {
-            live: one_less(c.live),
+            live: layout::one_less(c.live),
             ready: std::num::wrapping_add_u64(c.ready, 1),
             submissions: c.submissions,
         },
         Frees::Taken => Counts {
             live: c.live,
-            ready: one_less(c.ready),
+            ready: layout::one_less(c.ready),
             submissions: c.submissions,
         },
     }

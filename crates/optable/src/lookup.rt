@@ -3,7 +3,8 @@
 ghost use mathlib.Core.Path.{_≡_};
 ghost use lib.ListN.{take};
 ghost use Rattle.step.specs.Step.{writesIn, isLive};
-ghost use Rattle.optable.specs.Looked.{isPage, seenBy, lookedIn, markWrapped, repliesAs};
+ghost use Rattle.optable.specs.Looked.{isPage, seenBy, lookedIn, markWrapped, repliesAs, answerOf};
+use completion::Refusal;
 use completion::Reply;
 use model::Awaits;
 use model::Counts;
@@ -68,7 +69,7 @@ pub fn seen(l: Looked, row: Row) -> Looked
 pub fn look(rows: &[Row], depth: usize, next: u64) -> Looked
     ensures { λ r. ⌜ r ≡ lookedIn next (take depth (now (rows .entry))) ⌝ }
 {
-    let mut i = crate::smaller(depth, rows.len());
+    let mut i = layout::lesser(depth, rows.len());
     let mut l = Looked {
         writes: false,
         oldest: next,
@@ -91,12 +92,23 @@ pub fn mark(counts: Counts, oldest: u64) -> u64
     }
 }
 
-// The reply to a lookup.
-pub fn reply(x: Lookup, counts: Counts, l: Looked) -> Reply
+// The reply to a lookup, once the lengths are found to be the opening's.
+fn reply(x: Lookup, counts: Counts, l: Looked) -> Reply
     ensures { λ r. ⌜ r ≡ repliesAs x counts l ⌝ }
 {
     match x {
         Lookup::WritesLive => Reply::Writes(l.writes),
         Lookup::Mark => Reply::Mark(mark(counts, l.oldest)),
+    }
+}
+
+// The reply, by whether the lengths are the opening's: "A later call with another length of row memory or pool gets 13 first."
+pub fn answer(x: Lookup, counts: Counts, fits: bool, l: Looked) -> Reply
+    ensures { λ r. ⌜ r ≡ answerOf fits x counts l ⌝ }
+{
+    if fits {
+        reply(x, counts, l)
+    } else {
+        Reply::No(Refusal::Unfit)
     }
 }

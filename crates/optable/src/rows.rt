@@ -12,7 +12,7 @@ use model::Row;
 pub fn new(rows: &mut [Row], depth: usize)
     ensures { λ _. ⌜ now (rows .exit) ≡ rowsOpened (min depth (length (now (rows .entry)))) (now (rows .entry)) ⌝ }
 {
-    let n = crate::smaller(depth, rows.len());
+    let n = layout::lesser(depth, rows.len());
     let mut i: usize = 0;
     while i < n {
         rows[i] = crate::freed_row(0);

@@ -3,7 +3,7 @@ ghost use mathlib.Core.Path.{_≡_};
 ghost use mathlib.Core.Bool.{not};
 ghost use Prim.Native.Nat.{_+_};
 ghost use lib.Dec.{ltb};
-ghost use Rattle.regionmap.specs.Words.{wrap64};
+ghost use Rattle.regionmap.specs.Found.{wrap64};
 ghost use Rattle.step.specs.Step.{queueTag, claimedBy, durableAs};
 use model::Awaits;
 use model::Counts;

@@ -1,8 +1,8 @@
 // optrun: document 01's opening and a flush count of 0. It reads lines from standard input and answers each: `piece QTAG OFFSET COUNT`, `no` and the
 // number, what a taking took, or `bad` and the line's number. What a line says and how it is answered stands in the crate runner; here
 // lines are read until the input ends.
+use opening::Opened;
 use runner::turn::Running;
-use submitter::Opened;
 
 // Reads lines until the input ends, and answers each. A loop has to end: it counts its turns down, from a number that no run uses up.
 fn run(

@@ -5,7 +5,7 @@ use mathlib.Core.List.{List, [], _∷_, _++_}
 use Prim.Native.Nat.{ℕ, zero, suc, _+_, _-_, _*_, _/_, _≤_, _<_}
 use lib.ListN.{length}
 use Rattle.regionmap.specs.Map.{Run}
-use Rattle.model.specs.Opening.{Plan, regionRule, planIn, plansIn}
+use Rattle.model.specs.Opening.{Plan, regionRule, planIn, plansIn, REGION}
 use Rattle.fields.specs.Fields.{spaces, num}
 use Rattle.parser.specs.Openings.{regionWords, planAfter}
 
@@ -25,7 +25,7 @@ regionOf cs =
 
 pub record PlanLaws : Type 0 where
   -- a line's region stands behind those that the plan listed
-  pub added : (cs plan : List ℕ) (k : ℕ) → k < 8 → 70 * k + 70 ≤ length plan
+  pub added : (cs plan : List ℕ) (k : ℕ) → k < 8 → REGION * k + REGION ≤ length plan
       → plansIn (k + 1) (planAfter cs k plan) ≡ plansIn k plan ++ (planIn (regionWords cs) ∷ [])
   -- its words tell the line's region
   pub told : (cs : List ℕ) → (spaces cs - 5) / 2 ≤ 32 → planIn (regionWords cs) ≡ regionOf cs

@@ -3,14 +3,16 @@
 use mathlib.Core.Bool.{Bool, _&&_}
 use mathlib.Core.List.{List, [], _∷_, _++_}
 use Prim.Native.Nat.{ℕ, zero, suc, _+_, _-_, _*_, _/_, _%_}
-use lib.ListN.{length, getD, take, drop}
+use lib.ListN.{getD, take, drop}
 use lib.Dec.{leb, ltb, eqb}
 use Rattle.layout.specs.Pick.{pick}
 use Rattle.model.specs.declared.Opening.{Opening}
+use Rattle.model.specs.Opening.{REGION}
+use Rattle.fields.specs.Trace.{lineRead}
 use Rattle.fields.specs.Fields.{spaces, wordIn, num, areNumbers, isFlag}
 use Rattle.fields.specs.Codes.{codes}
-use Rattle.parser.specs.declared.opening.OpenLine.{OpenLine}
-use Rattle.parser.specs.declared.opening.OpenLine.the-variants.{Comment, Open, Region, Start, Bad}
+use Rattle.parser.specs.declared.preamble.OpenLine.{OpenLine}
+use Rattle.parser.specs.declared.preamble.OpenLine.the-variants as OpenLine
 
 -- `open`, `region`, `start`
 abbrev pub openWord : List ℕ
@@ -56,15 +58,15 @@ isStart cs = eqb (spaces cs) 0 && wordIn 0 startWord cs
 -- what a line of an opening says; "A line that starts with `#` is passed over"
 unfoldable pub openLineIn : List ℕ → OpenLine
 openLineIn cs =
-    pick (eqb (getD cs 0 0) 35) Comment
-    (pick (isOpen cs) (Open (openingOf cs)) (pick (isRegion cs) Region (pick (isStart cs) Start Bad)))
+    pick (eqb (getD cs 0 0) 35) OpenLine.Comment
+    (pick (isOpen cs) (OpenLine.Open (openingOf cs)) (pick (isRegion cs) OpenLine.Region (pick (isStart cs) OpenLine.Start OpenLine.Bad)))
 
--- "a line of more than 4,096 bytes prints `bad`", and one that starts with `#` is passed over, "however long"
+-- of whatever length
 unfoldable pub openLineRead : List ℕ → OpenLine
-openLineRead bytes = pick (leb (length bytes) 4096) (openLineIn bytes) (pick (eqb (getD bytes 0 0) 35) Comment Bad)
+openLineRead bytes = lineRead openLineIn OpenLine.Comment OpenLine.Bad bytes
 
--- the j-th of the 70 words in which a plan holds a region (the model's Memory, planIn): id, generation, first card offset, capacity, data length, the
--- count of further runs, then each run's start and offset; 0 behind the last
+-- the j-th of the 70 words in which a plan holds a region (the model's Opening, planIn): id, generation, first card offset, capacity, data length,
+-- the count of further runs, then each run's start and offset; 0 behind the last
 unfoldable pub regionWordIn : ℕ → List ℕ → ℕ
 regionWordIn j cs = pick (ltb j 5) (num (j + 1) cs) (pick (eqb j 5) ((spaces cs - 5) / 2) (num j cs))
 
@@ -73,7 +75,7 @@ wordsFrom zero j cs = []
 wordsFrom (suc n) j cs = regionWordIn j cs ∷ wordsFrom n (j + 1) cs
 
 unfoldable pub regionWords : List ℕ → List ℕ
-regionWords cs = wordsFrom 70 0 cs
+regionWords cs = wordsFrom REGION 0 cs
 
 -- how many regions there are with one more: 9 stands for every number above 8, of which an opening may have none
 unfoldable pub regionsAfter : ℕ → ℕ
@@ -81,4 +83,4 @@ regionsAfter k = pick (ltb k 8) (k + 1) 9
 
 -- the plan with one more region behind the first k; a ninth has no room
 unfoldable pub planAfter : List ℕ → ℕ → List ℕ → List ℕ
-planAfter cs k plan = pick (ltb k 8) (take (70 * k) plan ++ regionWords cs ++ drop (70 * k + 70) plan) plan
+planAfter cs k plan = pick (ltb k 8) (take (REGION * k) plan ++ regionWords cs ++ drop (REGION * k + REGION) plan) plan

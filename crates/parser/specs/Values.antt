@@ -5,14 +5,11 @@ use Prim.Native.Nat.{ℕ, _^_}
 use lib.Dec.{ltb, eqb}
 use Rattle.layout.specs.Pick.{pick}
 use Rattle.regionmap.specs.Words.{positionOf}
-use Rattle.domain.specs.declared.Op.{Op}
-use Rattle.domain.specs.declared.Op.the-variants.{None as noOp, Read as readOp, Write as writeOp, Flush as flushOp}
-use Rattle.domain.specs.declared.OsError.{OsError}
-use Rattle.domain.specs.declared.OsError.the-variants.{None as noError, Raw}
-use Rattle.domain.specs.declared.FirstCause.{FirstCause}
-use Rattle.model.specs.declared.Gate.{Gate}
-use Rattle.model.specs.declared.Gate.the-variants.{Open, Recycled, Released}
-use Rattle.model.specs.declared.Request.{Request}
+use Rattle.domain.specs.declared.{Op.Op, OsError.OsError, FirstCause.FirstCause}
+use Rattle.domain.specs.declared.Op.the-variants as Op
+use Rattle.domain.specs.declared.OsError.the-variants as OsError
+use Rattle.model.specs.declared.{Gate.Gate, Request.Request}
+use Rattle.model.specs.declared.Gate.the-variants as Gate
 use Rattle.fields.specs.Fields.{field, isNumber, wordIn, num}
 use Rattle.fields.specs.Codes.{codes}
 
@@ -31,7 +28,7 @@ unfoldable pub isError : ℕ → List ℕ → Bool
 isError k cs = isRaw k cs || wordIn k dash cs
 
 unfoldable pub errorIn : ℕ → List ℕ → OsError
-errorIn k cs = pick (isRaw k cs) (Raw (rawIn k cs)) noError
+errorIn k cs = pick (isRaw k cs) (OsError.Raw (rawIn k cs)) OsError.None
 
 -- "OP is `-`, `read`, `write` or `flush`."
 abbrev pub readWord : List ℕ
@@ -47,7 +44,7 @@ unfoldable pub isOp : ℕ → List ℕ → Bool
 isOp k cs = wordIn k dash cs || wordIn k readWord cs || wordIn k writeWord cs || wordIn k flushWord cs
 
 unfoldable pub opIn : ℕ → List ℕ → Op
-opIn k cs = pick (wordIn k readWord cs) readOp (pick (wordIn k writeWord cs) writeOp (pick (wordIn k flushWord cs) flushOp noOp))
+opIn k cs = pick (wordIn k readWord cs) Op.Read (pick (wordIn k writeWord cs) Op.Write (pick (wordIn k flushWord cs) Op.Flush Op.None))
 
 -- `OP ERR`, in two fields
 unfoldable pub isCause : ℕ → ℕ → List ℕ → Bool
@@ -58,7 +55,7 @@ causeIn op err cs = record { op = opIn op cs; raw = errorIn err cs }
 
 -- `gate HANDLE 0|1|2`, "open, recycled, released"
 unfoldable pub gateIn : ℕ → List ℕ → Gate
-gateIn k cs = pick (eqb (num k cs) 0) Open (pick (eqb (num k cs) 1) Recycled Released)
+gateIn k cs = pick (eqb (num k cs) 0) Gate.Open (pick (eqb (num k cs) 1) Gate.Recycled Gate.Released)
 
 -- a flag's value
 unfoldable pub flagIn : ℕ → List ℕ → Bool

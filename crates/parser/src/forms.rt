@@ -2,7 +2,6 @@
 ghost use mathlib.Core.Path.{_≡_};
 ghost use mathlib.Core.Bool.{_&&_};
 ghost use Rattle.layout.specs.Pick.{pick};
-ghost use Rattle.parser.specs.declared.forms.Said.the-variants.{Bad};
 ghost use Rattle.fields.specs.Fields.{spaces, areNumbers, isFlag};
 ghost use Rattle.parser.specs.Said.{ownIn, isAnswered, answerIn, forms, saysOf};
 use model::Call;
@@ -53,7 +52,7 @@ pub enum Said {
 
 // What a line says where its fields are as they must be.
 pub fn checked(fit: bool, said: Said) -> Said
-    ensures { λ r. ⌜ r ≡ pick fit said Bad ⌝ }
+    ensures { λ r. ⌜ r ≡ pick fit said Said.Bad ⌝ }
 {
     if fit { said } else { Said::Bad }
 }
@@ -83,7 +82,7 @@ pub fn of_none(text: &[u8]) -> Said
 
 // `A QTAG FLUSHES BACK`, behind which an answer stands that fits or does not.
 pub fn answered(text: &[u8], fit: bool, answer: Answer) -> Said
-    ensures { λ r. ⌜ r ≡ pick (fit && isAnswered (now (text .entry))) (answerIn answer (now (text .entry))) Bad ⌝ }
+    ensures { λ r. ⌜ r ≡ pick (fit && isAnswered (now (text .entry))) (answerIn answer (now (text .entry))) Said.Bad ⌝ }
 {
     let qtag = fields::words::value_in(text, 1);
     let flushes = fields::words::value_in(text, 2);
@@ -103,7 +102,7 @@ pub fn answered(text: &[u8], fit: bool, answer: Answer) -> Said
 
 // `w|r BUFFER POSITION LENGTH DURABLE TAG`
 pub fn owned(text: &[u8], write: bool) -> Said
-    ensures { λ r. ⌜ r ≡ pick (areNumbers 5 (now (text .entry)) && isFlag 4 (now (text .entry))) (ownIn write (now (text .entry))) Bad ⌝ }
+    ensures { λ r. ⌜ r ≡ pick (areNumbers 5 (now (text .entry)) && isFlag 4 (now (text .entry))) (ownIn write (now (text .entry))) Said.Bad ⌝ }
 {
     let numbers = fields::words::are_numbers(text, 5);
     let fit = layout::both(numbers, fields::words::is_flag(text, 4));

@@ -2,12 +2,12 @@
 // calls: the lines of two to nine fields behind the word.
 // forms: what a line of calls can say, and the forms of a word alone, of an answer and of a submission.
 // lines: a line by its first byte and the count of its fields, and what optrun takes of it.
-// opening: the lines `open`, `region` and `start`.
+// preamble: the lines `open`, `region` and `start`.
 // requests: the call that a line asks for.
 // values: OS errors, gates, flags, operations, causes and requests in a line's fields.
 pub mod calls;
 pub mod forms;
 pub mod lines;
-pub mod opening;
+pub mod preamble;
 pub mod requests;
 pub mod values;

@@ -7,6 +7,7 @@ ghost use lib.ListN.{length, take};
 ghost use Rattle.fields.specs.Trace.{Kept};
 ghost use Rattle.parser.specs.Said.{saidIn, saidRead, takeOnly, optrunLine};
 use crate::forms::Said;
+use fields::reader::Front;
 use fields::reader::Reader;
 use model::Call;
 
@@ -71,14 +72,9 @@ fn said_front(line: &[u8], kept: usize) -> Said
 pub fn finish(r: Reader, line: &[u8; 4096]) -> Said
     ensures { λ s. ⌜ ((bytes : List ℕ) → Kept r (now (line .entry)) bytes → s ≡ saidRead bytes) ⌝ }
 {
-    if r.long {
-        if line[0] == 35 {
-            return Said::Comment;
-        }
-        return Said::Bad;
+    match fields::reader::front_of(r, line) {
+        Front::Comment => Said::Comment,
+        Front::Bad => Said::Bad,
+        Front::Text(kept) => said_front(line, kept),
     }
-    if 4096 < r.kept {
-        return Said::Bad;
-    }
-    said_front(line, r.kept)
 }

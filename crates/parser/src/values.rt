@@ -2,10 +2,10 @@
 // for apart from whether the field holds one: where it holds none, the value is the first of its kind.
 ghost use mathlib.Core.Path.{_≡_};
 ghost use Rattle.parser.specs.Values.{isRaw, rawIn, gateIn, flagIn, requestIn, isOp, opIn, isError, errorIn, isCause, causeIn};
-ghost use mathlib.Core.Bool.{_||_};
 use domain::FirstCause;
 use domain::Op;
 use domain::OsError;
+use layout::either;
 use model::Gate;
 use model::Request;
 use regionmap::Position;
@@ -72,13 +72,6 @@ pub fn request_in(text: &[u8]) -> Request
         durable,
         tag,
     }
-}
-
-// One of them holds.
-pub fn either(a: bool, b: bool) -> bool
-    ensures { λ r. ⌜ r ≡ (a || b) ⌝ }
-{
-    if a { true } else { b }
 }
 
 // Whether the k-th field is an operation or `-`.

@@ -3,7 +3,7 @@
 -- attempt to write nbyte bytes from the buffer pointed to by buf to the file". "After a write() to a regular file has successfully
 -- returned: any successful read() from each byte position in the file that was modified by that write shall return the data specified by
 -- the write() for that position until such byte positions are again modified."
--- The card is the byte at each offset. Its size never changes and every transfer of an opened table lies within it, so a transfer taken
+-- The card is the byte at each offset (D-9). Its size never changes and every transfer of an opened table lies within it, so a transfer taken
 -- whole meets no end of file.
 use mathlib.Core.Path.{_≡_}
 use mathlib.Core.Bool.{Bool, _&&_}

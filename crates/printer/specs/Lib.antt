@@ -1,13 +1,12 @@
 pub mod Spaced
 pub mod Texts
 pub mod Parts
-pub mod ShortOutcome
+pub mod Tickets
+pub mod Outcomes
 pub mod ShortTook
 pub mod Short
 pub mod Contexts
 pub mod No
-pub mod Tickets
-pub mod Outcomes
 pub mod Lines
 pub mod Replay
 pub mod Rows

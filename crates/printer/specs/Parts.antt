@@ -3,13 +3,10 @@ use mathlib.Core.Bool.{Bool}
 use mathlib.Core.List.{List, [], _∷_, _++_}
 use Prim.Native.Nat.{ℕ}
 use Rattle.layout.specs.Pick.{pick}
-use Rattle.domain.specs.declared.Op.{Op}
-use Rattle.domain.specs.declared.Op.the-variants.{None as noOp, Read as readOp, Write as writeOp, Flush as flushOp}
-use Rattle.domain.specs.declared.OsError.{OsError}
-use Rattle.domain.specs.declared.OsError.the-variants.{None as noError, Raw}
-use Rattle.domain.specs.declared.FirstCause.{FirstCause}
-use Rattle.completion.specs.declared.Range.{Range}
-use Rattle.completion.specs.declared.WriteTicket.{WriteTicket}
+use Rattle.domain.specs.declared.{Op.Op, OsError.OsError, FirstCause.FirstCause}
+use Rattle.domain.specs.declared.Op.the-variants as Op
+use Rattle.domain.specs.declared.OsError.the-variants as OsError
+use Rattle.completion.specs.declared.{Range.Range, WriteTicket.WriteTicket}
 use Rattle.fields.specs.Codes.{codes}
 use Rattle.printer.specs.Spaced.{spaced}
 
@@ -28,15 +25,15 @@ bit b = pick b 1 0
 
 -- "OP is `-`, `read`, `write` or `flush`.", behind a space
 unfoldable pub opText : Op → List ℕ
-opText noOp = codes " -"
-opText readOp = codes " read"
-opText writeOp = codes " write"
-opText flushOp = codes " flush"
+opText Op.None = codes " -"
+opText Op.Read = codes " read"
+opText Op.Write = codes " write"
+opText Op.Flush = codes " flush"
 
 -- "ERR is a number below 2^32, or `-` for none.", behind a space
 unfoldable pub errorText : OsError → List ℕ
-errorText noError = codes " -"
-errorText (Raw n) = spaced n
+errorText OsError.None = codes " -"
+errorText (OsError.Raw n) = spaced n
 
 -- `OP ERR`
 unfoldable pub causeText : FirstCause → List ℕ
@@ -105,8 +102,8 @@ markWord = codes "mark"
 
 -- `refused io REGION START END ERR` or `refused full REGION START END`
 unfoldable pub refusedText : Range → OsError → List ℕ
-refusedText r noError = refusedWord ++ rangeText fullWord r
-refusedText r (Raw n) = refusedWord ++ rangeText ioWord r ++ spaced n
+refusedText r OsError.None = refusedWord ++ rangeText fullWord r
+refusedText r (OsError.Raw n) = refusedWord ++ rangeText ioWord r ++ spaced n
 
 -- `flush QTAG NEED`
 unfoldable pub flushText : ℕ → ℕ → List ℕ

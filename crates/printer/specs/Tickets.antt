@@ -1,10 +1,8 @@
 -- What replay prints of a ticket, a receipt and a buffer: TRACE.md's section "Replies".
 use mathlib.Core.List.{List, [], _∷_}
 use Prim.Native.Nat.{ℕ}
-use Rattle.completion.specs.declared.WriteTicket.{WriteTicket}
-use Rattle.completion.specs.declared.DurableReceipt.{DurableReceipt}
-use Rattle.completion.specs.declared.Buffer.{Buffer}
-use Rattle.completion.specs.declared.Buffer.the-variants.{Back, Lost}
+use Rattle.completion.specs.declared.{WriteTicket.WriteTicket, DurableReceipt.DurableReceipt, Buffer.Buffer}
+use Rattle.completion.specs.declared.Buffer.the-variants as Buffer
 use Rattle.fields.specs.Codes.{codes}
 use Rattle.printer.specs.Parts.{fieldsOf, bit, receiptWord}
 
@@ -20,8 +18,8 @@ lostWord = codes " lost"
 
 -- "then ` buffer B LENGTH` or ` lost`"
 unfoldable pub bufferText : Buffer → List ℕ
-bufferText (Back b len) = fieldsOf bufferWord (b ∷ len ∷ [])
-bufferText Lost = lostWord
+bufferText (Buffer.Back b len) = fieldsOf bufferWord (b ∷ len ∷ [])
+bufferText Buffer.Lost = lostWord
 
 -- "TICKET is `ticket VOLUME REGION GENERATION START END NEED EPOCH`"
 unfoldable pub ticketText : WriteTicket → List ℕ

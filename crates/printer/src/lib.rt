@@ -5,9 +5,9 @@
 // tickets: tickets, receipts and buffers.
 // lines: the lines that both programs print.
 // refusals: what replay prints of a refusal.
-// outcomes: what replay prints of an outcome.
+// outcomes: what both programs print of an outcome.
 // replies: what replay prints of a reply.
-// rows: what replay prints of a sum and of the rows.
+// rows: what replay prints of the rows.
 // short: what optrun prints of a reply.
 // output: what replay prints of a line, from the front of its buffer.
 pub mod bytes;

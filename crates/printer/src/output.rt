@@ -80,9 +80,9 @@ pub fn say_rows(
     ensures { λ r. ⌜ (r ≤ 4096) × (depth ≤ 64 → take r (now (out .exit)) ≡ listedText depth live rows (now (free .entry))) ⌝ }
 {
     let all = generations(rows);
-    let most = optable::smaller(depth, 64);
-    let end = optable::smaller(most, free.len());
-    let top = optable::smaller(live, end);
+    let most = layout::lesser(depth, 64);
+    let end = layout::lesser(most, free.len());
+    let top = layout::lesser(live, end);
     let listed = &all[..most];
     let stack = &free[top..end];
     crate::rows::rows_text(listed, stack, out)

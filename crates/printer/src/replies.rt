@@ -44,7 +44,7 @@ pub fn took_text(c: Completion, out: &mut [u8]) -> usize
     let buf = c.buf;
     let word = crate::bytes::put(b"took", out, 0);
     let tagged = crate::bytes::put_spaced(c.tag, out, word);
-    let told = crate::outcomes::put_outcome(outcome, out, tagged);
+    let told = crate::outcomes::put_outcome(true, outcome, out, tagged);
     let ended = crate::tickets::put_buffer(buf, out, told);
     crate::bytes::put(b"\n", out, ended)
 }

@@ -1,15 +1,8 @@
-// What replay prints of a sum and of the rows.
+// What replay prints of the rows.
 ghost use mathlib.Core.Path.{_≡_};
 ghost use Prim.Native.Nat.{_+_, _*_, _≤_};
 ghost use lib.ListN.{length, take};
-ghost use Rattle.printer.specs.Rows.{sumText, rowsText};
-
-// `sum S`
-pub fn sum_text(sum: u64, out: &mut [u8; 1024]) -> usize
-    ensures { λ r. ⌜ (r ≤ 1024) × (take r (now (out .exit)) ≡ sumText sum) ⌝ }
-{
-    crate::lines::numbered_text(b"sum", sum, out)
-}
+ghost use Rattle.printer.specs.Rows.{rowsText};
 
 // `rows GENERATION... free ROW...`, of rows and a free stack with its top first.
 pub fn rows_text(generations: &[u64], free: &[u64], out: &mut [u8]) -> usize

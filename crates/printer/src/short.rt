@@ -1,50 +1,15 @@
-// What optrun prints of a reply, and of the outcome that it may hold: document 01's fields and no more, so no buffer, no ticket and no receipt.
+// What optrun prints of a reply: document 01's fields and no more, so no buffer, no ticket and no receipt.
 ghost use mathlib.Core.Path.{_≡_};
 ghost use mathlib.Core.List.{[], _∷_, _++_};
-ghost use Prim.Native.Nat.{_+_, _≤_};
+ghost use Prim.Native.Nat.{_≤_};
 ghost use lib.ListN.{length, take};
-ghost use Rattle.printer.specs.Parts.{fieldsOf, causeText, unknownWord, refusedText};
-ghost use Rattle.printer.specs.ShortOutcome.{shortOutcome};
+ghost use Rattle.printer.specs.Parts.{refusedText};
 ghost use Rattle.printer.specs.ShortTook.{shortTook};
 ghost use Rattle.printer.specs.Short.{shortText};
 use completion::Completion;
-use completion::Outcome;
 use completion::Range;
 use completion::Reply;
-use domain::FirstCause;
 use domain::OsError;
-
-// Puts ` unknown START END OP ERR`.
-fn put_unknown(range: Range, cause: FirstCause, out: &mut [u8], at: usize) -> usize
-    requires { ⌜ at + 87 ≤ length (now out) ⌝ }
-    ensures { λ r. ⌜ (r ≤ at + 87) ×
-        ((length (now (out .exit)) ≡ length (now (out .entry))) ×
-        (take r (now (out .exit)) ≡ take at (now (out .entry)) ++
-        (fieldsOf unknownWord (range .start .0 ∷ range .end .0 ∷ []) ++ causeText cause))) ⌝ }
-{
-    let numbers = [range.start.0, range.end.0];
-    let ranged = crate::parts::put_fields(b" unknown", &numbers, out, at);
-    crate::causes::put_cause(cause, out, ranged)
-}
-
-// Puts what an operation came to.
-pub fn put_short(outcome: Outcome, out: &mut [u8], at: usize) -> usize
-    requires { ⌜ at + 87 ≤ length (now out) ⌝ }
-    ensures { λ r. ⌜ (r ≤ at + 87) ×
-        ((length (now (out .exit)) ≡ length (now (out .entry))) × (take r (now (out .exit)) ≡ take at (now (out .entry)) ++ shortOutcome outcome)) ⌝ }
-{
-    match outcome {
-        Outcome::Written(t) => crate::parts::put_need(b" written", t, t.need, out, at),
-        Outcome::Receipt(t, d) => crate::parts::put_need(b" receipt", t, d.need, out, at),
-        Outcome::Read { len } => crate::parts::put_read(len, out, at),
-        Outcome::Unknown(range, cause) => put_unknown(range, cause, out, at),
-        Outcome::Interrupted(range) => crate::parts::put_range(b" interrupted", range, out, at),
-        Outcome::Corruption(range) => crate::parts::put_range(b" media", range, out, at),
-        Outcome::Io { range, op: _, raw } => crate::parts::put_raw(b" io", range, raw, out, at),
-        Outcome::QueueFull(range) => crate::parts::put_range(b" full", range, out, at),
-        Outcome::Poisoned(cause) => crate::causes::put_poisoned(cause, out, at),
-    }
-}
 
 // `took TAG` and what the operation came to
 pub fn took_text(c: Completion, out: &mut [u8]) -> usize
@@ -54,7 +19,7 @@ pub fn took_text(c: Completion, out: &mut [u8]) -> usize
     let outcome = c.outcome;
     let word = crate::bytes::put(b"took", out, 0);
     let tagged = crate::bytes::put_spaced(c.tag, out, word);
-    let told = put_short(outcome, out, tagged);
+    let told = crate::outcomes::put_outcome(false, outcome, out, tagged);
     crate::bytes::put(b"\n", out, told)
 }
 

@@ -1,7 +1,6 @@
 // Which function a call goes to (the arms of store-io's queue_core.rs and submitter/mod.rs), once the lengths are found to be the opening's.
 ghost use mathlib.Core.List.{List};
 ghost use Prim.Native.Nat.{ℕ};
-ghost use Rattle.model.specs.declared.Call.the-variants.{Write as writeCall, ReadPage as readCall};
 ghost use Rattle.optable.specs.Called.{ArmTo};
 use arrival::Arrived;
 use model::Call;
@@ -20,7 +19,7 @@ pub fn write(
     free: &[u64],
     owners: &mut [u64],
 ) -> Touched
-    ensures { λ r. ⌜ ((ready pool : List ℕ) → ArmTo (writeCall q) row counts rows
+    ensures { λ r. ⌜ ((ready pool : List ℕ) → ArmTo (Call.Write q) row counts rows
         (now (store .entry)) (now (free .entry)) ready (now (owners .entry)) pool
         r (now (store .entry)) (now (free .entry)) ready (now (owners .exit)) pool) ⌝ }
 {
@@ -38,7 +37,7 @@ pub fn read_page(
     free: &[u64],
     owners: &mut [u64],
 ) -> Touched
-    ensures { λ r. ⌜ ((ready pool : List ℕ) → ArmTo (readCall q) row counts rows
+    ensures { λ r. ⌜ ((ready pool : List ℕ) → ArmTo (Call.ReadPage q) row counts rows
         (now (store .entry)) (now (free .entry)) ready (now (owners .entry)) pool
         r (now (store .entry)) (now (free .entry)) ready (now (owners .exit)) pool) ⌝ }
 {

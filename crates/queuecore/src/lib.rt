@@ -8,7 +8,6 @@ ghost use Rattle.optable.specs.Called.{TouchesTo};
 use completion::Refusal;
 use model::Call;
 use model::Counts;
-use model::Lengths;
 use model::Row;
 use optable::touched::Touched;
 
@@ -28,15 +27,7 @@ pub fn touch(
         (now (store .entry)) (now (free .entry)) (now (ready .entry)) (now (owners .entry)) (now (pool .entry))
         r (now (store .exit)) (now (free .exit)) (now (ready .exit)) (now (owners .exit)) (now (pool .exit)) ⌝ }
 {
-    let l = Lengths {
-        rows: rows as u64,
-        store: store.len() as u64,
-        free: free.len() as u64,
-        ready: ready.len() as u64,
-        owners: owners.len() as u64,
-        pool: pool.len() as u64,
-    };
-    if !memory::lengths::same_lengths(store, l) {
+    if !memory::lengths::fits(rows, store, free, ready, owners, pool) {
         return optable::touched::away(row, Refusal::Unfit);
     }
     crate::dispatch::arm(call, row, counts, rows, store, free, ready, owners, pool)

@@ -3,7 +3,6 @@ ghost use mathlib.Core.Path.{_≡_};
 ghost use mathlib.Core.List.{[], _∷_};
 ghost use Prim.Native.Nat.{_+_, _-_, _^_, min};
 ghost use Rattle.regionmap.specs.Words.{positionOf};
-ghost use Rattle.completion.specs.declared.Context.the-variants.{Region as withRegion};
 ghost use Rattle.step.specs.Questions.{rangeFrom, ask as asks, firstNo, storeWritable, unpoisoned, regionWritable};
 use completion::Context;
 use completion::Range;
@@ -14,7 +13,7 @@ use regionmap::Position;
 
 // "Context is the region's id." (ctx)
 pub fn ctx(id: u64) -> Context
-    ensures { λ r. ⌜ r ≡ withRegion id ⌝ }
+    ensures { λ r. ⌜ r ≡ Context.Region id ⌝ }
 {
     Context::Region(id)
 }

@@ -10,7 +10,8 @@ use lib.ListN.{getD, drop}
 use lib.Seq.{getD-drop}
 use Rattle.regionmap.specs.Map.{Run, span, spanFrom, runOf, ascends}
 use Rattle.regionmap.proofs.RunsFacts.{rises, span-here, span-behind}
-use Rattle.regionmap.specs.Words.{runsIn, mapIn, HoldsMap, startIn, LastStart, positionOf, offsetOf, foundOf}
+use Rattle.regionmap.specs.Words.{runsIn, mapIn, positionOf, offsetOf}
+use Rattle.regionmap.specs.Found.{HoldsMap, startIn, LastStart, foundOf}
 
 -- the run behind the k-th
 pub start-next : (ws : List ℕ) (k : ℕ) → getD ws (2 * k + 4) 0 ≡ startIn ws (k + 1)

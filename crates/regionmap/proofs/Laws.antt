@@ -10,7 +10,7 @@ use native.Mathlib.Omega.{arith}
 use lib.ListN.{length}
 use Rattle.regionmap.specs.Map.{Map, Span, firstRun, runOf, runEnd, runLeft, place, pieceSize, piecesUpTo, pieces}
 use Rattle.regionmap.specs.Map.{spans, Extent, extent, extents, apart, allApart, allWithin}
-use Rattle.regionmap.specs.Words.{wrap64}
+use Rattle.regionmap.specs.Found.{wrap64}
 use Rattle.regionmap.specs.Laws.{Lawful, Holds, OneRun, OnePiece, Chain, Separate, MapLaws, ExtentLaws}
 use Rattle.regionmap.proofs.RunsFacts.{listed, holds, only}
 use Rattle.regionmap.proofs.Extents.{apart-cases, apart-first, apart-second, apart-between, same-or-apart, within-each, within-first, within-second}

@@ -6,7 +6,7 @@ use mathlib.Core.List.{List, [], _∷_, _++_, List·Memᴰ}
 use Prim.Native.Nat.{ℕ, _+_, _-_, _≤_, _<_, _^_}
 use lib.ListN.{length}
 use Rattle.regionmap.specs.Map.{Map, Span, runOf, place, pieceSize, Piece, pieces, ascends, spans, Extent, extents, apart, allApart, allWithin}
-use Rattle.regionmap.specs.Words.{wrap64}
+use Rattle.regionmap.specs.Found.{wrap64}
 
 -- the two of the opening's rules on one map that its laws need: "Starts strictly ascend, above 0 and below the capacity", and "a data length of at
 -- most the capacity"

@@ -4,7 +4,8 @@
 ghost use mathlib.Core.Path.{_≡_};
 ghost use Prim.Native.Nat.{_+_, _-_, _≤_};
 ghost use Rattle.regionmap.specs.Map.{runEnd, runLeft, place};
-ghost use Rattle.regionmap.specs.Words.{mapIn, HoldsMap, positionOf, offsetOf, pieceFound, wrap64};
+ghost use Rattle.regionmap.specs.Words.{mapIn, positionOf, offsetOf};
+ghost use Rattle.regionmap.specs.Found.{HoldsMap, pieceFound, wrap64};
 use crate::FoundPiece;
 use crate::FoundRun;
 use crate::Offset;

@@ -1,10 +1,11 @@
-// The run of a position, found by halving (RegionMap::run_of of store-io's regionmap.rs). A map lies in lent words (regionmap's Words); every
+// The run of a position, found by halving (RegionMap::run_of of store-io's regionmap.rs; D-6). A map lies in lent words (regionmap's Words); every
 // function that is public is total on whatever words come.
 ghost use mathlib.Core.Path.{_≡_};
 ghost use Prim.Native.Nat.{_+_, _*_, _≤_};
 ghost use lib.ListN.{length};
 ghost use Rattle.regionmap.specs.Map.{runOf};
-ghost use Rattle.regionmap.specs.Words.{mapIn, HoldsMap, LastStart, foundOf};
+ghost use Rattle.regionmap.specs.Words.{mapIn};
+ghost use Rattle.regionmap.specs.Found.{HoldsMap, LastStart, foundOf};
 use crate::FoundRun;
 use crate::Offset;
 use crate::Position;

@@ -4,13 +4,11 @@ use mathlib.Core.Path.{_≡_}
 use mathlib.Core.List.{List, []}
 use Prim.Native.Nat.{ℕ}
 use Rattle.completion.specs.declared.Reply.{Reply}
-use Rattle.model.specs.declared.Counts.{Counts}
-use Rattle.model.specs.declared.Call.{Call}
+use Rattle.model.specs.declared.{Counts.Counts, Call.Call}
 use Rattle.model.specs.Memory.{Lent}
 use Rattle.optable.specs.Called.{CallsTo}
-use Rattle.parser.specs.declared.requests.Named.{Named}
-use Rattle.parser.specs.declared.requests.Asks.{Asks}
-use Rattle.parser.specs.declared.requests.Asks.the-variants.{Nothing, Call as calls, Other}
+use Rattle.parser.specs.declared.{requests.Named.Named, requests.Asks.Asks}
+use Rattle.parser.specs.declared.requests.Asks.the-variants as Asks
 use Rattle.printer.specs.Texts.{badText}
 use Rattle.printer.specs.Short.{shortText}
 
@@ -32,6 +30,6 @@ pub record Still (c : Counts) (l : Lent) (c′ : Counts) (l′ : Lent) (text sai
 
 -- "A line that starts with `#` is passed over"; another form "prints `bad` and its number in the file, from 1, and changes nothing"
 unfoldable pub Answers : Asks → ℕ → Counts → Lent → Counts → Lent → List ℕ → Type 0
-Answers Nothing n c l c′ l′ text = Still c l c′ l′ text []
-Answers (calls x) n c l c′ l′ text = Ran x c l c′ l′ text
-Answers Other n c l c′ l′ text = Still c l c′ l′ text (badText n)
+Answers Asks.Nothing n c l c′ l′ text = Still c l c′ l′ text []
+Answers (Asks.Call x) n c l c′ l′ text = Ran x c l c′ l′ text
+Answers Asks.Other n c l c′ l′ text = Still c l c′ l′ text (badText n)

@@ -32,7 +32,7 @@ use Rattle.model.specs.declared.Awaits.the-variants.{Nothing, Piece, Flush as A
 use Rattle.model.specs.declared.Row.{Row}
 use Rattle.model.specs.State.{Region, State}
 use Rattle.step.specs.Questions.{regionAt}
-use Rattle.step.specs.Rules.{firstOf, lastOf, rangeOf, Fate, Fate.away, Fate.awaits, Fate.ends, Fate.rejected, bufferAs, errorOf, turnedBack, isWritten, causeOf, failedRead, readOutcome, readLength, ticketOf, unflushed, writtenAs, lastPiece}
+use Rattle.step.specs.Rules.{leftOf, firstOf, lastOf, rangeOf, Fate, Fate.away, Fate.awaits, Fate.ends, Fate.rejected, bufferAs, errorOf, turnedBack, isWritten, causeOf, failedRead, readOutcome, readLength, ticketOf, unflushed, writtenAs, lastPiece}
 use Rattle.step.specs.Step.{poisonWith, planOf}
 use Rattle.step.proofs.Picked.{by-pick}
 use Rattle.rusttable.specs.Table.{Result, Result.Ok, Result.Err, IoBuf, RawResult, Error, Outcome, Live, Table, Finish, Store, Submitter, Done.Wrote, Done.Read, Finish.Finished, Finish.Flush}
@@ -140,9 +140,9 @@ module _ (s : State) (n : ℕ) (row : Row) (T : Table) (t : ℕ) where
     read-concluded buf result = rw (live-is T t r (operationOf row (Reads a b)) has) (unwritten x t buf (operationOf row (Reads a b)) (mapOk Read («settle_read» g a b buf result)) (no-write («settle_read» g a b buf result)))
 
     module _ (sp : Split) (bytes : List ℕ) (room : sp .total ≤ length bytes) where
-      shorter : (m : ℕ) → sp .done + m ≤ sp .total → «set_len» (record { number = row .buffer; len = sp .total; bytes = turned (sp .total) (sp .total - sp .done) bytes }) (sp .done + m) ≡ record { number = row .buffer; len = sp .done + m; bytes = turned (sp .total) (sp .total - sp .done) bytes }
+      shorter : (m : ℕ) → sp .done + m ≤ sp .total → «set_len» (record { number = row .buffer; len = sp .total; bytes = turned (sp .total) (leftOf sp) bytes }) (sp .done + m) ≡ record { number = row .buffer; len = sp .done + m; bytes = turned (sp .total) (leftOf sp) bytes }
       unfolding «set_len» pick
-      shorter m le = rw (turn-laws .length-kept (sp .total) (sp .total - sp .done) bytes, le-leb (sp .done + m) (length bytes) (omega arith)) refl
+      shorter m le = rw (turn-laws .length-kept (sp .total) (leftOf sp) bytes, le-leb (sp .done + m) (length bytes) (omega arith)) refl
 
       read-handed : (answer : Answer) (back : Bool) → isRefused answer ≡ false → within sp answer
           → handBack x t (back-in-order back sp bytes) (mapOk Read («settle_read» g a b (back-in-order back sp bytes) (resultFor sp answer))) ≡ carried (Reads a b) (fate (Reads a b) sp bytes answer back)
@@ -236,9 +236,9 @@ module _ (s : State) (n : ℕ) (row : Row) (T : Table) (t : ℕ) where
           ≡ carried (Page a b) (pick w (writtenAs (s .settings) (g .forced) (s .poison) (row .durable) its-ticket (bufferAs back (row .buffer) (sp .total)) (turnedBack back sp bytes))
           (ends (record { outcome = endsUnknown (rangeOf (planOf g) (Page a b)) (causeOf answer); buffer = bufferAs back (row .buffer) (sp .total); bytes = turnedBack back sp bytes; cause = some (causeOf answer) })))
       unfolding pick bufferAs bufAs turnedBack
-      by-written answer true true e = written-ends sp (turned (sp .total) (sp .total - sp .done) bytes) fits
+      by-written answer true true e = written-ends sp (turned (sp .total) (leftOf sp) bytes) fits
       by-written answer false true e = absurd (not-both e (lost-unwritten sp answer))
-      by-written answer true false e = unwritten-ends (Back (row .buffer) (sp .total)) (turned (sp .total) (sp .total - sp .done) bytes) answer
+      by-written answer true false e = unwritten-ends (Back (row .buffer) (sp .total)) (turned (sp .total) (leftOf sp) bytes) answer
       by-written answer false false e = unwritten-ends Lost bytes answer
 
       pub write-ends : (answer : Answer) (back : Bool) → conclude x t (back-in-order back sp bytes) (resultFor sp answer) ≡ carried (Page a b) (fate (Page a b) sp bytes answer back)

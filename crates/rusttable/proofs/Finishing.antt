@@ -30,7 +30,7 @@ use Rattle.model.specs.declared.Call.the-variants.{Answer as Answers}
 use Rattle.model.specs.State.{Region, State, freed}
 use Rattle.model.specs.Opening.{Plan}
 use Rattle.step.specs.Questions.{regionAt}
-use Rattle.step.specs.Rules.{firstOf, pieceOf, pieceLength, Input.answered as fedAnswer, Fate, Fate.awaits as awaitsFate, bufferAs, turnedBack, lastPiece, abovePiece, isRefusal, firstRefused, isWhole, goesOn, splitAfter, pieceAnswered, answerRules, rules}
+use Rattle.step.specs.Rules.{leftOf, firstOf, pieceOf, pieceLength, Input.answered as fedAnswer, Fate, Fate.awaits as awaitsFate, bufferAs, turnedBack, lastPiece, abovePiece, isRefusal, firstRefused, isWhole, goesOn, splitAfter, pieceAnswered, answerRules, rules}
 use Rattle.step.specs.Step.{rowAt, rowOf, names, bytesAt, planOf, writesIn, awaitsNow, going, asksFor, settled, fateOf, called, step}
 use Rattle.step.specs.Sound.{Sound}
 use Rattle.step.proofs.Picked.{by-pick}
@@ -98,8 +98,8 @@ left-alike done total piece most = by-case (true-or-false (ltb (done + piece) to
     by-case (inl e) = lt-ltb 0 (total - done - min piece (total - done)) (let lt = ltb-true (done + piece) total e in omega arith) ∙ sym e
     by-case (inr e) = le-ltb 0 (total - done - min piece (total - done)) (let le = ltb-false (done + piece) total e in omega arith) ∙ sym e
 
-next-alike : (b : IoBuf) (sp : Split) → b .len ≤ sp .total - sp .done → (result : RawResult) (back : Bool)
-    → ((isSome (returned back b) && okIs result (lenOf (returned back b))) && ltb 0 (sp .total - sp .done - min (lenOf (returned back b)) (sp .total - sp .done))) ≡ goesOn (b .len) sp (answerOf result) back
+next-alike : (b : IoBuf) (sp : Split) → b .len ≤ leftOf sp → (result : RawResult) (back : Bool)
+    → ((isSome (returned back b) && okIs result (lenOf (returned back b))) && ltb 0 (leftOf sp - min (lenOf (returned back b)) (leftOf sp))) ≡ goesOn (b .len) sp (answerOf result) back
 unfolding returned isSome lenOf okIs goesOn isWhole answerOf
 next-alike b sp most (Ok m) true = ap (λ (z : Bool). eqb m (b .len) && z) (left-alike (sp .done) (sp .total) (b .len) most)
 next-alike b sp most (Err e) true = refl
@@ -156,7 +156,7 @@ module _ (s : State) (i : Sound s) (n t : ℕ) (found : names (rowAt s (rowOf t)
 
     whole-buffer : (b : Bool) → returned b buf ≡ bufAs (bufferAs b (row .buffer) (sp .total)) (turnedBack b sp bytes)
     unfolding returned bufAs bufferAs turnedBack bufOf
-    whole-buffer true = let all : sp .total - sp .done ≡ sp .total = (let z = at-first in omega arith) in rw (one, all, turn-whole (sp .total) bytes) refl
+    whole-buffer true = let all : leftOf sp ≡ sp .total = (let z = at-first in omega arith) in rw (one, all, turn-whole (sp .total) bytes) refl
     whole-buffer false = refl
 
     finish-one : rust ≡ conclude (submitterOf s n) t (returned back buf) result
@@ -173,13 +173,13 @@ module _ (s : State) (i : Sound s) (n t : ℕ) (found : names (rowAt s (rowOf t)
   -- several pieces
   module _ (several : splitOf g k sp ≡ some sp) where
     abbrev test : Bool
-    test = (isSome (returned back buf) && okIs result (lenOf (returned back buf))) && ltb 0 (sp .total - sp .done - min (lenOf (returned back buf)) (sp .total - sp .done))
+    test = (isSome (returned back buf) && okIs result (lenOf (returned back buf))) && ltb 0 (leftOf sp - min (lenOf (returned back buf)) (leftOf sp))
 
     same-test : test ≡ goesOn piece sp (answerOf result) back
     unfolding bufOf
     same-test = next-alike buf sp (piece-most g k sp) result back
 
-    finish-several : rust ≡ pick test (given (returned back buf) (lastOne (submitterOf s n) t (returned back buf) result live sp) λ b. nextOne (submitterOf s n) t live sp (lenOf (returned back buf)) (sp .total - sp .done - min (lenOf (returned back buf)) (sp .total - sp .done)) b)
+    finish-several : rust ≡ pick test (given (returned back buf) (lastOne (submitterOf s n) t (returned back buf) result live sp) λ b. nextOne (submitterOf s n) t live sp (lenOf (returned back buf)) (leftOf sp - min (lenOf (returned back buf)) (leftOf sp)) b)
         (lastOne (submitterOf s n) t (returned back buf) result live sp)
     unfolding finish given withSplit submitterOf
     finish-several = rw (live-is (tableOf s) t (rowAs s row) live (has s i t found k sp awaits), several) refl
@@ -234,7 +234,7 @@ module _ (s : State) (i : Sound s) (n t : ℕ) (found : names (rowAt s (rowOf t)
       unfolding withTable submitterOf storeOf going
       next-state = ap (withTable (submitterOf s n)) (onward-put s i t found live (there s i t found k sp awaits) turn turn-long (Piece k later) now stands)
 
-      rest-alike : sp .total - sp .done - min piece (sp .total - sp .done) ≡ sp .total - (sp .done + piece)
+      rest-alike : leftOf sp - min piece (leftOf sp) ≡ sp .total - (sp .done + piece)
       rest-alike = let most = piece-most g k sp in omega arith
 
       start-alike : (k′ : Kind) → «start_of» k′ ≡ firstOf k′ .0
@@ -258,7 +258,7 @@ module _ (s : State) (i : Sound s) (n t : ℕ) (found : names (rowAt s (rowOf t)
       unfolding pieceOf planOf splitAfter
       offset-alike = rw (start-alike k) refl
 
-      count-alike : min (runLeft (its-region .map) («start_of» k + (sp .done + piece))) (sp .total - sp .done - min piece (sp .total - sp .done)) ≡ pieceLength g k later
+      count-alike : min (runLeft (its-region .map) («start_of» k + (sp .done + piece))) (leftOf sp - min piece (leftOf sp)) ≡ pieceLength g k later
       unfolding pieceLength pieceOf planOf pieceSize splitAfter
       count-alike = rw (start-alike k, rest-alike) refl
 
@@ -269,14 +269,14 @@ module _ (s : State) (i : Sound s) (n t : ℕ) (found : names (rowAt s (rowOf t)
           rw e (next-turned (row .buffer) piece bytes sp (facts .room) piece (pieceLength g k later) (omega (arith, most))
           ∙ rw (own-onward s i t found live (there s i t found k sp awaits) turn turn-long (Piece k later) now) refl)
 
-      next-goes : Finishes n (nextOne (submitterOf s n) t live sp piece (sp .total - sp .done - min piece (sp .total - sp .done)) buf) (settled s t row (awaitsFate (Piece k later) turn))
+      next-goes : Finishes n (nextOne (submitterOf s n) t live sp piece (leftOf sp - min piece (leftOf sp)) buf) (settled s t row (awaitsFate (Piece k later) turn))
       unfolding nextOne settled finishAs asksFor region storeOf submitterOf withSplit regionAt splitAfter
       next-goes = record {
         state = next-state;
         reply = λ j. some (Next t (offset-alike j) (buffer-alike _ count-alike j) ((writes-alike k later ∙ ap writesIn (sym row-after)) j));
       }
 
-      next-is : rust ≡ nextOne (submitterOf s n) t live sp piece (sp .total - sp .done - min piece (sp .total - sp .done)) buf
+      next-is : rust ≡ nextOne (submitterOf s n) t live sp piece (leftOf sp - min piece (leftOf sp)) buf
       unfolding pick given returned lenOf bufOf
       next-is = finish-several ∙ rw (same-test, onward) (rw came refl)
 

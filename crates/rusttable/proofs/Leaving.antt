@@ -4,7 +4,7 @@ use mathlib.Core.Logic.{_⊎_, inl, inr}
 use mathlib.Core.Bool.{Bool, true, false, not, _&&_, _||_}
 use mathlib.Core.List.{List, [], _∷_, map}
 use mathlib.Core.Option.{some}
-use Prim.Native.Nat.{ℕ, zero, suc, _+_, _-_, _≤_, _<_, _^_}
+use Prim.Native.Nat.{ℕ, zero, suc, _-_, _≤_, _<_, _^_}
 use native.Mathlib.Omega.{arith}
 use lib.Dec.{ltb, eqb}
 use lib.ListN.{getD, set, drop, replicate}
@@ -29,8 +29,8 @@ use Rattle.model.specs.declared.Call.{Call}
 use Rattle.model.specs.declared.Call.the-variants.{Write, ReadPage, Answer as Answers, Flushed as FlushedCall, Take, SetGate, SetReadOnly, SetForced, ReportPoison}
 use Rattle.model.specs.State.{Region, Owner, Owner.host, Owner.table, Owner.lost, State, freed, awaiting, receiptFor}
 use Rattle.model.specs.Opening.{Plan, opened}
-use Rattle.step.specs.Questions.{isHost, heldAt, regionAt}
-use Rattle.step.specs.Rules.{firstOf, pieceOf, pieceLength}
+use Rattle.step.specs.Questions.{byteAt, isHost, heldAt, regionAt}
+use Rattle.step.specs.Rules.{leftOf, firstOf, pieceOf, pieceLength}
 use Rattle.step.specs.Step.{rowAt, rowOf, isLive, names, bytesAt, planOf, withRegions, withPoison, marked, withGate, withReadOnly, withForced, eqLengths, called, step}
 use Rattle.step.specs.Sound.{rowsHold, holds, readyHold, tableHas, Sound}
 use Rattle.step.specs.Run.{leave}
@@ -249,7 +249,7 @@ unfolding pieceLength pieceOf planOf
 piece-asserts s t k sp i found e =
     let p = placed s i t found k sp e in
     let region = regionAt s (rowAt s (rowOf t) .handle) in
-    let one = map-laws .one-piece (region .map) (i .each (rowAt s (rowOf t) .handle) (its-place s i t found k sp e .region) .lawful) (firstOf k .0 + sp .done) (sp .total - sp .done) (omega (arith, p .left)) (omega (arith, p .left, p .in-data)) in
+    let one = map-laws .one-piece (region .map) (i .each (rowAt s (rowOf t) .handle) (its-place s i t found k sp e .region) .lawful) (byteAt (firstOf k .0) (sp .done)) (leftOf sp) (omega (arith, p .left)) (omega (arith, p .left, p .in-data)) in
     record {
       moves = omega (arith, one .some);
       most = omega (arith, one .most, p .left);

@@ -16,6 +16,7 @@ pub mod Taking
 pub mod Issuing
 pub mod Asking
 pub mod Submitting
+pub mod Answering
 pub mod Writing
 pub mod Reading
 pub mod Leaving

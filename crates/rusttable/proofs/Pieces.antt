@@ -18,8 +18,8 @@ use Rattle.model.specs.declared.Awaits.the-variants.{Piece}
 use Rattle.model.specs.declared.Row.{Row}
 use Rattle.model.specs.State.{State}
 use Rattle.model.specs.Opening.{Plan}
-use Rattle.step.specs.Questions.{regionAt}
-use Rattle.step.specs.Rules.{firstOf, lastOf, pieceOf, pieceLength, bufferAs, turnedBack, lastPiece, rangeStart, rangeEnd}
+use Rattle.step.specs.Questions.{byteAt, regionAt}
+use Rattle.step.specs.Rules.{leftOf, firstOf, lastOf, pieceOf, pieceLength, bufferAs, turnedBack, lastPiece, rangeStart, rangeEnd}
 use Rattle.step.specs.Step.{rowAt, rowOf, names, bytesAt, planOf}
 use Rattle.step.specs.Sound.{SplitFits, InTable, Sound}
 use Rattle.step.proofs.Named.{named-live, named-below}
@@ -94,7 +94,7 @@ module _ (s : State) (i : Sound s) (t : ℕ) (found : names (rowAt s (rowOf t)) 
   unfolding pieceLength pieceOf planOf
   some-bytes =
       let p = placed in
-      map-laws .one-piece (regionAt s (row .handle) .map) (i .each (row .handle) (its-place .region) .lawful) (firstOf k .0 + sp .done) (sp .total - sp .done) (omega (arith, p .left)) (omega (arith, p .left, p .in-data)) .some
+      map-laws .one-piece (regionAt s (row .handle) .map) (i .each (row .handle) (its-place .region) .lawful) (byteAt (firstOf k .0) (sp .done)) (leftOf sp) (omega (arith, p .left)) (omega (arith, p .left, p .in-data)) .some
 
 -- ---- the end of an operation
 

@@ -12,7 +12,7 @@ use Rattle.layout.specs.Pick.{pick}
 use Rattle.iobuf.specs.Turn.{turned}
 use Rattle.iobuf.proofs.Laws.{turn-laws}
 use Rattle.model.specs.declared.Split.{Split}
-use Rattle.step.specs.Rules.{bufferAs, turnedBack}
+use Rattle.step.specs.Rules.{leftOf, bufferAs, turnedBack}
 use Rattle.rusttable.specs.Table.{IoBuf}
 use Rattle.rusttable.specs.Functions.{«set_len», «rotate_left», rotated, inOrder, returned}
 use Rattle.rusttable.proofs.Handed.{bufAs}
@@ -41,11 +41,11 @@ module _ (number piece : ℕ) (bytes : List ℕ) (sp : Split) (room : sp .total 
       ∙ set-fits (record { number = number; len = sp .total; bytes = turned (sp .total) k bytes }) next (let e = turn-laws .length-kept (sp .total) k bytes in omega arith)
 
   -- "the bytes back in order"
-  pub order-turned : inOrder sp (record { number = number; len = piece; bytes = bytes }) ≡ record { number = number; len = sp .total; bytes = turned (sp .total) (sp .total - sp .done) bytes }
+  pub order-turned : inOrder sp (record { number = number; len = piece; bytes = bytes }) ≡ record { number = number; len = sp .total; bytes = turned (sp .total) (leftOf sp) bytes }
   unfolding inOrder
   order-turned =
-      ap (λ (b : IoBuf). rotated b (sp .total - sp .done)) (set-fits (record { number = number; len = piece; bytes = bytes }) (sp .total) room)
-      ∙ rotate-turns number (sp .total) (sp .total - sp .done) bytes
+      ap (λ (b : IoBuf). rotated b (leftOf sp)) (set-fits (record { number = number; len = piece; bytes = bytes }) (sp .total) room)
+      ∙ rotate-turns number (sp .total) (leftOf sp) bytes
 
   pub order-back : (back : Bool) → Option·map (inOrder sp) (returned back (record { number = number; len = piece; bytes = bytes })) ≡ bufAs (bufferAs back number (sp .total)) (turnedBack back sp bytes)
   unfolding returned bufAs bufferAs turnedBack

@@ -2,24 +2,20 @@
 -- same order.
 use mathlib.Core.Path.{_≡_, refl, ap, _∙_}
 use mathlib.Core.Bool.{Bool, true, false, not, _&&_}
-use mathlib.Core.List.{[]}
 use mathlib.Core.Option.{Option, none, some}
-use Prim.Native.Nat.{ℕ, _+_, _^_, min}
-use native.Mathlib.Omega.{arith}
-use borrow.Author.Tests.{ltb-true, leb-true, not-true, not-false}
+use Prim.Native.Nat.{ℕ, _+_, _^_}
+use borrow.Author.Tests.{not-true, not-false}
 use lib.Dec.{leb, ltb, eqb}
 use lib.ListN.{length, length-map}
 use Rattle.layout.specs.Pick.{pick}
 use Rattle.layout.specs.Block.{onBlock}
-use Rattle.layout.proofs.Tests.{not-both, and-left, and-right}
+use Rattle.layout.proofs.Tests.{not-both}
 use Rattle.regionmap.specs.declared.Position.{Position}
 use Rattle.regionmap.specs.declared.Offset.{Offset}
-use Rattle.regionmap.specs.Map.{place, runLeft}
 use Rattle.domain.specs.declared.FirstCause.{FirstCause}
 use Rattle.domain.specs.declared.Poisoned.the-variants.{Never, First}
 use Rattle.completion.specs.declared.Refusal.{Refusal}
-use Rattle.completion.specs.declared.Reply.{Reply}
-use Rattle.completion.specs.declared.Reply.the-variants.{Piece as piece, No as turnedAway}
+use Rattle.completion.specs.declared.Reply.the-variants.{Piece as piece}
 use Rattle.completion.specs.Numbers.{number}
 use Rattle.model.specs.declared.Lengths.{Lengths}
 use Rattle.model.specs.declared.Kind.{Kind}
@@ -28,23 +24,23 @@ use Rattle.model.specs.declared.Gate.{Gate}
 use Rattle.model.specs.declared.Gate.the-variants.{Open, Recycled, Released}
 use Rattle.model.specs.declared.Request.{Request}
 use Rattle.model.specs.declared.Asked.{Asked}
-use Rattle.model.specs.declared.Asked.the-variants.{Yes, No}
+use Rattle.model.specs.declared.Asked.the-variants.{No}
 use Rattle.model.specs.declared.Call.the-variants.{Write, Answer as Answers}
 use Rattle.model.specs.State.{Region, State}
 use Rattle.step.specs.Questions.{handleNamesRegion, bufferInPool, hostHoldsBuffer, roomInTable, lifetimeLeft, storeWritable, regionWritable, volumeAndRegionMatch, generationMatches, lengthAbove0, writeOnBlock, aligned, withinData, regionAt, firstNo, writeQuestions}
 use Rattle.step.specs.Rules.{firstOf, lastOf, rangeOf, opOf, errorOf}
-use Rattle.step.specs.Step.{startOf, endOf, begun, queueTag, topOf, rowAt, durableAs, accepted, planOf, verdictOf, writeVerdict, submitted, called, step}
+use Rattle.step.specs.Step.{startOf, endOf, durableAs, planOf, writeVerdict, called, step}
 use Rattle.step.specs.Sound.{Sound}
 use Rattle.step.proofs.Answers.{Passed}
 use Rattle.step.proofs.Laws.{keeps}
-use Rattle.rusttable.specs.Table.{Result, Result.Ok, Result.Err, IoBuf, RawError, Error, Error.NotWritten, Error.Poisoned, Submitter, Req, Req.WriteAt, Submitted, Submitted.Taken, Submitted.Refused, Issued}
+use Rattle.rusttable.specs.Table.{Result, Result.Ok, Result.Err, IoBuf, RawError, Error, Error.NotWritten, Error.Poisoned, Submitter, Req.WriteAt, Submitted, Submitted.Taken, Submitted.Refused, Issued}
 use Rattle.rusttable.specs.Table.{NotWrittenCause.ForeignPosition, NotWrittenCause.ForeignBuffer, NotWrittenCause.QueueFull, NotWrittenCause.StaleGeneration, NotWrittenCause.ReadOnly, NotWrittenCause.Empty, NotWrittenCause.Misaligned, NotWrittenCause.OutOfBounds}
-use Rattle.rusttable.specs.Functions.{tried, ctx, «ctx_range», noContext, «not_written», refused, unpoisoned, ready, «ready_for», enter, owns, full, admit, check, «first_piece», submit, issue, issuedWith, rejected, write}
+use Rattle.rusttable.specs.Functions.{tried, ctx, «ctx_range», noContext, «not_written», refused, unpoisoned, ready, «ready_for», enter, owns, full, admit, check, «first_piece», issue, issuedWith, rejected, write}
 use Rattle.rusttable.specs.Domain.{compared}
-use Rattle.rusttable.specs.AsStep.{bufOf, contextOf, contextAs, errorAs, completionAs, rowAs, splitOf, tableOf, storeOf, submitterOf, posOf, refusalOf, refusedError, reqAs, issuedAs, Submits}
+use Rattle.rusttable.specs.AsStep.{bufOf, contextOf, contextAs, errorAs, completionAs, rowAs, tableOf, storeOf, submitterOf, posOf, refusalOf, refusedError, reqAs, Submits}
 use Rattle.rusttable.proofs.Asking.{by-ask, by-gate, by-poison, not-or, zero-test, full-test}
 use Rattle.rusttable.proofs.Issuing.{first-is, issue-is}
-use Rattle.rusttable.proofs.Submitting.{settledAs, taken-is, refused-is}
+use Rattle.rusttable.proofs.Answering.{passed, is-piece, req, submits, Answered, answered-yes, answered-no, answered-out, taken-by, refused-by}
 use Rattle.rusttable.proofs.Within.{called-step}
 
 -- ---- admission, of a write and of a read
@@ -80,22 +76,6 @@ module _ (s : State) (i : Sound s) (q : Request) (n : ℕ) where
   pub admit-gate : in-pool ≡ true → has-room ≡ true → (z : Gate) → g .gate ≡ z → admit x g buf ≡ enter g z
   unfolding admit owns submitterOf storeOf bufOf pick
   admit-gate e r z o = rw (e, full-is true r, o) refl
-
--- an answer no
-pub turned : (s : State) (q : Request) (k : Kind) (n : ℕ) (w : Bool) (buf : IoBuf) (f : Refusal) (e : Error) (rust : Submitter × Issued) → errorAs f ≡ some e → rust ≡ rejected (submitterOf s n) buf e
-    → Submits n w buf rust (settledAs s k q (No f))
-unfolding rejected issuedAs submitted verdictOf
-turned s q k n w buf f e rust same r = rw r (record { state = refl; reply = rw same refl })
-
--- the reply to an answer no, and to an accepted submission
-module _ (s : State) (q : Request) (k : Kind) where
-  pub no-reply-of : (f : Refusal) → compared (settledAs s k q (No f) .1) ≡ true → compared (turnedAway f) ≡ true
-  unfolding submitted verdictOf
-  no-reply-of f h = h
-
-pub is-piece : (z : Reply) (t : ℕ) (o : Offset) (c b : ℕ) → z ≡ piece t o c b → compared z ≡ true
-unfolding compared
-is-piece z t o c b e = rw e refl
 
 -- ---- a write
 
@@ -168,39 +148,22 @@ module _ (s : State) (i : Sound s) (q : Request) (n : ℕ) where
   abbrev error : Option RawError → Error
   error raw = refused raw («ctx_range» region (q .offset) (endOf q))
 
-  abbrev req : Req
-  req = reqAs true (place (region .map) (q .offset .0)) (bufOf s (q .buffer) (min (runLeft (region .map) (q .offset .0)) (q .length)))
-
-  abbrev submits : Submitted → Submitter × Issued
-  submits queue =
-      issuedWith error (submit y (tableOf (accepted s (topOf (s .free)) k q)) (topOf (s .free)) (queueTag (topOf (s .free)) (rowAt s (topOf (s .free)) .generation)) req (splitOf (planOf region) k (begun (q .length))) queue)
-
   starts : firstOf k ≡ q .offset
   unfolding firstOf
   starts = refl
 
-  accepts : Passed s q → admit y region given ≡ Ok tt → «ready_for» (storeOf s n) region ≡ Ok tt → check (storeOf s n) region (posOf q) (q .length) ≡ Ok (endOf q) → (queue : Submitted) → rust queue ≡ submits queue
+  accepts : Passed s q → admit y region given ≡ Ok tt → «ready_for» (storeOf s n) region ≡ Ok tt → check (storeOf s n) region (posOf q) (q .length) ≡ Ok (endOf q) → (queue : Submitted) → rust queue ≡ submits s q n k true error queue
   unfolding reqAs durableAs
   accepts p a r c queue =
       issued queue a r c ∙ rw (first-is s i q p k starts)
-      (ap (issuedWith error) (issue-is s i q p k starts n req queue))
+      (ap (issuedWith error) (issue-is s i q p k starts n (req s q n k true error) queue))
 
   -- what the Rust does, by the questions' answer
-  unfoldable pub Answered : Asked → Type 0
-  Answered Yes = Passed s q × ((queue : Submitted) → rust queue ≡ submits queue)
-  Answered (No f) = compared (turnedAway f) ≡ true → (e : Error) × (errorAs f ≡ some e) × ((queue : Submitted) → rust queue ≡ rejected y given e)
+  abbrev Says : Asked → Type 0
+  Says = Answered s q n k true error rust
 
-  answered-yes : Passed s q → ((queue : Submitted) → rust queue ≡ submits queue) → Answered (firstNo [])
-  unfolding Answered firstNo
-  answered-yes p issues = (p, issues)
-
-  answered-no : (f : Refusal) (e : Error) → errorAs f ≡ some e → ((queue : Submitted) → rust queue ≡ rejected y given e) → Answered (No f)
-  unfolding Answered
-  answered-no f e same refuses h = (e, same, refuses)
-
-  answered-out : (f : Refusal) → ltb (number f) 11 ≡ false → Answered (No f)
-  unfolding Answered compared
-  answered-out f out h = absurd (not-both h out)
+  says-no : (f : Refusal) (e : Error) → errorAs f ≡ some e → ((queue : Submitted) → rust queue ≡ rejected y given e) → Says (No f)
+  says-no = answered-no s q n k true error rust
 
   module _ (known : ltb (q .handle) (s .settings .regions) ≡ true) where
     -- the last five questions
@@ -211,79 +174,55 @@ module _ (s : State) (i : Sound s) (q : Request) (n : ℕ) where
       refuses : (e : Error) → checked ≡ Err e → (queue : Submitted) → rust queue ≡ rejected y given e
       refuses e c queue = no-check queue e a r c
 
-    pub chain : Answered (firstNo (writeQuestions s region q))
+    pub chain : Says (firstNo (writeQuestions s region q))
     unfolding writeQuestions handleNamesRegion bufferInPool hostHoldsBuffer roomInTable lifetimeLeft storeWritable regionWritable volumeAndRegionMatch generationMatches lengthAbove0 writeOnBlock aligned withinData number errorAs contextAs ctx noContext enter «not_written» pick
     chain =
-        by-ask _ _ _ Answered
-        (λ e₁. by-ask _ _ _ Answered
-        (λ e₂. by-ask _ _ _ Answered
-        (λ e₃. by-ask _ _ _ Answered
-        (λ e₄. by-ask _ _ _ Answered
-        (λ e₅. by-gate _ _ _ Answered
-        (λ e₆. let a = admit-gate s i q n e₂ e₄ Open e₆ in by-ask _ _ _ Answered
-        (λ e₇. by-poison _ _ Answered
-        (λ e₈. by-ask _ _ _ Answered
-        (λ e₉. let r = ready-region (not-true _ e₇) e₈ false (not-true _ e₉) in by-ask _ _ _ Answered
-        (λ e₁₀. by-ask _ _ _ Answered
-        (λ e₁₁. by-ask _ _ _ Answered
-        (λ e₁₂. by-ask _ _ _ Answered
-        (λ e₁₃. by-ask _ _ _ Answered
+        by-ask _ _ _ Says
+        (λ e₁. by-ask _ _ _ Says
+        (λ e₂. by-ask _ _ _ Says
+        (λ e₃. by-ask _ _ _ Says
+        (λ e₄. by-ask _ _ _ Says
+        (λ e₅. by-gate _ _ _ Says
+        (λ e₆. let a = admit-gate s i q n e₂ e₄ Open e₆ in by-ask _ _ _ Says
+        (λ e₇. by-poison _ _ Says
+        (λ e₈. by-ask _ _ _ Says
+        (λ e₉. let r = ready-region (not-true _ e₇) e₈ false (not-true _ e₉) in by-ask _ _ _ Says
+        (λ e₁₀. by-ask _ _ _ Says
+        (λ e₁₁. by-ask _ _ _ Says
+        (λ e₁₂. by-ask _ _ _ Says
+        (λ e₁₃. by-ask _ _ _ Says
         (λ e₁₄.
-        let p : Passed s q = record {
-          region = ltb-true _ _ e₁;
-          buffer = ltb-true _ _ (and-left (ltb (q .buffer) (s .settings .buffers)) _ e₂);
-          fits = leb-true _ _ (and-right (ltb (q .buffer) (s .settings .buffers)) _ e₂);
-          held = e₃;
-          room = ltb-true _ _ e₄;
-          left = ltb-true _ _ e₅;
-          some = ltb-true _ _ e₁₂;
-          whole = ltb-true _ _ (and-left (ltb (q .offset .0 + q .length) (2 ^ 64)) _ e₁₄);
-          in-data = leb-true _ _ (and-right (ltb (q .offset .0 + q .length) (2 ^ 64)) _ e₁₄);
-        } in
-        answered-yes p (accepts p a r (check-is true true true true true e₁₀ e₁₁ e₁₂ e₁₃ e₁₄)))
-        (λ e₁₄. answered-no _ _ refl (refuses a r _ (check-is true true true true false e₁₀ e₁₁ e₁₂ e₁₃ e₁₄))))
-        (λ e₁₃. answered-no _ _ refl (refuses a r _ (check-is true true true false _ e₁₀ e₁₁ e₁₂ e₁₃ refl))))
-        (λ e₁₂. answered-no _ _ refl (refuses a r _ (check-is true true false _ _ e₁₀ e₁₁ e₁₂ refl refl))))
-        (λ e₁₁. answered-no _ _ refl (refuses a r _ (check-is true false _ _ _ e₁₀ e₁₁ refl refl refl))))
-        (λ e₁₀. answered-no _ _ refl (refuses a r _ (check-is false _ _ _ _ e₁₀ refl refl refl refl))))
-        (λ e₉. answered-no _ _ refl (λ queue. no-ready queue _ a (ready-region (not-true _ e₇) e₈ true (not-false _ e₉)))))
-        (λ cause e₈. answered-no _ _ refl (λ queue. no-ready queue (Poisoned cause) a (ready-poisoned (not-true _ e₇) cause e₈))))
-        (λ e₇. answered-no _ _ refl (λ queue. no-ready queue (NotWritten ReadOnly noContext) a (ready-store (not-false _ e₇)))))
-        (λ e₆. answered-no _ _ refl (λ queue. no-admit queue _ (admit-gate s i q n e₂ e₄ Recycled e₆)))
-        (λ e₆. answered-no _ _ refl (λ queue. no-admit queue _ (admit-gate s i q n e₂ e₄ Released e₆))))
-        (λ e₅. answered-out _ refl))
-        (λ e₄. answered-no _ _ refl (λ queue. no-admit queue _ (admit-full s i q n e₂ e₄))))
-        (λ e₃. answered-out _ refl))
-        (λ e₂. answered-no _ _ refl (λ queue. no-admit queue _ (admit-foreign s i q n e₂))))
+        let p = passed s q e₁ e₂ e₃ e₄ e₅ e₁₂ e₁₄ in
+        answered-yes s q n k true error rust p (accepts p a r (check-is true true true true true e₁₀ e₁₁ e₁₂ e₁₃ e₁₄)))
+        (λ e₁₄. says-no _ _ refl (refuses a r _ (check-is true true true true false e₁₀ e₁₁ e₁₂ e₁₃ e₁₄))))
+        (λ e₁₃. says-no _ _ refl (refuses a r _ (check-is true true true false _ e₁₀ e₁₁ e₁₂ e₁₃ refl))))
+        (λ e₁₂. says-no _ _ refl (refuses a r _ (check-is true true false _ _ e₁₀ e₁₁ e₁₂ refl refl))))
+        (λ e₁₁. says-no _ _ refl (refuses a r _ (check-is true false _ _ _ e₁₀ e₁₁ refl refl refl))))
+        (λ e₁₀. says-no _ _ refl (refuses a r _ (check-is false _ _ _ _ e₁₀ refl refl refl refl))))
+        (λ e₉. says-no _ _ refl (λ queue. no-ready queue _ a (ready-region (not-true _ e₇) e₈ true (not-false _ e₉)))))
+        (λ cause e₈. says-no _ _ refl (λ queue. no-ready queue (Poisoned cause) a (ready-poisoned (not-true _ e₇) cause e₈))))
+        (λ e₇. says-no _ _ refl (λ queue. no-ready queue (NotWritten ReadOnly noContext) a (ready-store (not-false _ e₇)))))
+        (λ e₆. says-no _ _ refl (λ queue. no-admit queue _ (admit-gate s i q n e₂ e₄ Recycled e₆)))
+        (λ e₆. says-no _ _ refl (λ queue. no-admit queue _ (admit-gate s i q n e₂ e₄ Released e₆))))
+        (λ e₅. answered-out s q n k true error rust _ refl))
+        (λ e₄. says-no _ _ refl (λ queue. no-admit queue _ (admit-full s i q n e₂ e₄))))
+        (λ e₃. answered-out s q n k true error rust _ refl))
+        (λ e₂. says-no _ _ refl (λ queue. no-admit queue _ (admit-foreign s i q n e₂))))
         (λ e₁. absurd (not-both known e₁))
 
     -- ---- the squares
-
-    taken-by : (a : Asked) → Answered a → compared (settledAs s k q a .1) ≡ true → Submits n true given (rust Taken) (settledAs s k q a)
-    unfolding Answered
-    taken-by Yes answer h = rw (answer .1 Taken) (taken-is s i q (answer .0) k starts n true error)
-    taken-by (No f) answer h = let x = answer (no-reply-of s q k f h) in turned s q k n true given f (x .0) (rust Taken) (x .1) (x .2 Taken)
 
     same-error : (raw : Option RawError) → error raw ≡ refusedError (rangeOf (planOf region) k) (opOf k) (errorOf (refusalOf raw))
     unfolding refused refusedError rangeOf planOf opOf errorOf refusalOf contextOf «ctx_range» «not_written» firstOf lastOf
     same-error none = refl
     same-error (some e) = refl
 
-    refused-by : (l : Lengths) (raw : Option RawError) (back : Bool) (m : ℕ) (a : Asked) → Answered a → Sound (settledAs s k q a .0)
-        → (t : ℕ) (o : Offset) (c b : ℕ) → settledAs s k q a .1 ≡ piece t o c b → compared (step (settledAs s k q a .0) l (Answers t (refusalOf raw) back m) .1) ≡ true
-        → Submits n true given (rust (Refused raw back)) (step (settledAs s k q a .0) l (Answers t (refusalOf raw) back m))
-    unfolding Answered submitted verdictOf
-    refused-by l raw back m Yes answer sound t o c b e h =
-        let same : t ≡ queueTag (topOf (s .free)) (rowAt s (topOf (s .free)) .generation) = cc in
-        rw (same, answer .1 (Refused raw back)) (refused-is s i q (answer .0) k starts n true l sound raw back m (rw same at h) error (same-error raw))
-    refused-by l raw back m (No f) answer sound t o c b e h = let z : _≡_ {A = ℕ} 0 1 = cc in absurd (omega arith)
-
 pub write-square : (s : State) (l : Lengths) (q : Request) (n : ℕ) → Sound s → ltb (q .handle) (s .settings .regions) ≡ true → compared (step s l (Write q) .1) ≡ true
     → Submits n true (bufOf s (q .buffer) (q .length)) (write (submitterOf s n) (q .handle) (posOf q) (bufOf s (q .buffer) (q .length)) (q .durable) (q .tag) Taken) (step s l (Write q))
 unfolding called writeVerdict
 write-square s l q n i known h =
     let e = called-step s l (Write q) h in
-    rw e (taken-by s i q n known (firstNo (writeQuestions s (regionAt s (q .handle)) q)) (chain s i q n known) (rw e at h))
+    rw e (taken-by s q n _ true _ _ i (starts s i q n) _ (chain s i q n known) (rw e at h))
 
 pub write-refused-square : (s : State) (l : Lengths) (q : Request) (n : ℕ) → Sound s → ltb (q .handle) (s .settings .regions) ≡ true
     → (t : ℕ) (o : Offset) (c b : ℕ) → step s l (Write q) .1 ≡ piece t o c b
@@ -293,4 +232,4 @@ pub write-refused-square : (s : State) (l : Lengths) (q : Request) (n : ℕ) →
 unfolding called writeVerdict
 write-refused-square s l q n i known t o c b issued raw back m h =
     let e = called-step s l (Write q) (is-piece (step s l (Write q) .1) t o c b issued) in
-    rw e (refused-by s i q n known l raw back m (firstNo (writeQuestions s (regionAt s (q .handle)) q)) (chain s i q n known) (rw e at (keeps s l (Write q) i)) t o c b (rw e at issued) (rw e at h))
+    rw e (refused-by s q n _ true _ _ i (starts s i q n) (λ p. same-error s i q n known) l raw back m _ (chain s i q n known) (rw e at (keeps s l (Write q) i)) t o c b (rw e at issued) (rw e at h))

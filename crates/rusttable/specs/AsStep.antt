@@ -8,36 +8,22 @@ use lib.Dec.{ltb, eqb}
 use Rattle.layout.specs.Pick.{pick}
 use Rattle.regionmap.specs.declared.Offset.{Offset}
 use Rattle.regionmap.specs.Map.{Map, runOf}
-use Rattle.domain.specs.declared.Op.{Op}
-use Rattle.domain.specs.declared.OsError.{OsError}
+use Rattle.domain.specs.declared.{Op.Op, OsError.OsError}
 use Rattle.domain.specs.declared.OsError.the-variants as OsError
 use Rattle.platform.specs.declared.Answer.{Answer}
 use Rattle.platform.specs.declared.Answer.the-variants as Answer
 use Rattle.platform.specs.declared.Flushed.{Flushed as FlushResult}
 use Rattle.platform.specs.declared.Flushed.the-variants as Flushed
-use Rattle.completion.specs.declared.WriteTicket.{WriteTicket}
-use Rattle.completion.specs.declared.Range.{Range}
-use Rattle.completion.specs.declared.Context.{Context}
+use Rattle.completion.specs.declared.{WriteTicket.WriteTicket, Range.Range, Context.Context, Refusal.Refusal, Outcome.Outcome, Buffer.Buffer}
 use Rattle.completion.specs.declared.Context.the-variants as Context
-use Rattle.completion.specs.declared.Refusal.{Refusal}
 use Rattle.completion.specs.declared.Refusal.the-variants as Refusal
-use Rattle.completion.specs.declared.Outcome.{Outcome}
 use Rattle.completion.specs.declared.Outcome.the-variants as Outcome
-use Rattle.completion.specs.declared.Buffer.{Buffer}
 use Rattle.completion.specs.declared.Buffer.the-variants as Buffer
-use Rattle.completion.specs.declared.Completion.{Completion}
-use Rattle.completion.specs.declared.Reply.{Reply}
+use Rattle.completion.specs.declared.{Completion.Completion, Reply.Reply}
 use Rattle.completion.specs.declared.Reply.the-variants as Reply
-use Rattle.model.specs.declared.Opening.{Opening}
-use Rattle.model.specs.declared.Lengths.{Lengths}
-use Rattle.model.specs.declared.Kind.{Kind}
+use Rattle.model.specs.declared.{Opening.Opening, Lengths.Lengths, Kind.Kind, Split.Split, Awaits.Awaits, Row.Row, Request.Request, Call.Call}
 use Rattle.model.specs.declared.Kind.the-variants as Kind
-use Rattle.model.specs.declared.Split.{Split}
-use Rattle.model.specs.declared.Awaits.{Awaits}
 use Rattle.model.specs.declared.Awaits.the-variants as Awaits
-use Rattle.model.specs.declared.Row.{Row}
-use Rattle.model.specs.declared.Request.{Request}
-use Rattle.model.specs.declared.Call.{Call}
 use Rattle.model.specs.declared.Call.the-variants as Call
 use Rattle.model.specs.State.{State}
 use Rattle.model.specs.Opening.{Plan, opened}
@@ -48,8 +34,7 @@ use Rattle.step.specs.Sound.{Sound}
 use Rattle.step.specs.Run.{leave}
 use Rattle.step.specs.Lists.{HostMay}
 use Rattle.rusttable.specs.Table.{Result.Ok, Result.Err, IoBuf, RawError, RawResult, ErrorContext, Error, Flushed, Live, Table, Finish, Store}
-use Rattle.rusttable.specs.Table.{Submitter, RegionPos, Req, Issued}
-use Rattle.rusttable.specs.Table.{Outcome as RustOutcome, Completion as RustCompletion, Row as RustRow}
+use Rattle.rusttable.specs.Table.{Submitter, RegionPos, Req, Issued, Outcome as RustOutcome, Completion as RustCompletion, Row as RustRow}
 use Rattle.rusttable.specs.Table.{NotWrittenCause.ForeignPosition, NotWrittenCause.ForeignBuffer, NotWrittenCause.QueueFull}
 use Rattle.rusttable.specs.Table.{NotWrittenCause.StaleGeneration, NotWrittenCause.NotReady, NotWrittenCause.ReadOnly, NotWrittenCause.Empty}
 use Rattle.rusttable.specs.Table.{NotWrittenCause.Misaligned, NotWrittenCause.OutOfBounds, NotWrittenCause.Interrupted}

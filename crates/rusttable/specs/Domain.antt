@@ -11,8 +11,7 @@ use Rattle.regionmap.specs.Map.{Run, firstRun}
 use Rattle.completion.specs.declared.Reply.{Reply}
 use Rattle.completion.specs.declared.Reply.the-variants as Reply
 use Rattle.completion.specs.Numbers.{number}
-use Rattle.model.specs.declared.Lengths.{Lengths}
-use Rattle.model.specs.declared.Call.{Call}
+use Rattle.model.specs.declared.{Lengths.Lengths, Call.Call}
 use Rattle.model.specs.declared.Call.the-variants as Call
 use Rattle.model.specs.State.{Region, State}
 use Rattle.step.specs.Rules.{isRefusal}

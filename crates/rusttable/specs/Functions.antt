@@ -13,19 +13,15 @@ use Rattle.layout.specs.Pick.{pick}
 use Rattle.regionmap.specs.declared.Position.{Position}
 use Rattle.regionmap.specs.Map.{runLeft, place}
 use Rattle.regionmap.specs.Words.{positionOf}
-use Rattle.domain.specs.declared.Op.{Op}
+use Rattle.domain.specs.declared.{Op.Op, OsError.OsError}
 use Rattle.domain.specs.declared.Op.the-variants as Op
-use Rattle.domain.specs.declared.OsError.{OsError}
 use Rattle.domain.specs.declared.OsError.the-variants as OsError
 use Rattle.domain.specs.declared.Poisoned.{Poisoned as Poison}
 use Rattle.domain.specs.declared.Poisoned.the-variants as Poisoned
 use Rattle.domain.specs.Domain.{firstKept}
-use Rattle.completion.specs.declared.WriteTicket.{WriteTicket}
-use Rattle.completion.specs.declared.DurableReceipt.{DurableReceipt}
-use Rattle.model.specs.declared.Kind.{Kind}
+use Rattle.completion.specs.declared.{WriteTicket.WriteTicket, DurableReceipt.DurableReceipt}
+use Rattle.model.specs.declared.{Kind.Kind, Split.Split, Gate.Gate}
 use Rattle.model.specs.declared.Kind.the-variants as Kind
-use Rattle.model.specs.declared.Split.{Split}
-use Rattle.model.specs.declared.Gate.{Gate}
 use Rattle.model.specs.declared.Gate.the-variants as Gate
 use Rattle.model.specs.State.{Region, noRegion, upFrom, receiptFor}
 use Rattle.rusttable.specs.Table.{Result, Result.Ok, Result.Err, IoBuf, RawError, RawResult, ErrorContext, Error, Flushed, Written, Done}
@@ -98,11 +94,6 @@ noContext = record { region = none; range = none }
 -- io.rs, `not_written`
 unfoldable pub «not_written» : NotWrittenCause → ErrorContext → Error
 «not_written» cause c = NotWritten cause c
-
--- of an error that there may be, its number
-unfoldable pub numberOf : Option RawError → OsError
-numberOf none = OsError.None
-numberOf (some e) = OsError.Raw (e .raw)
 
 -- io.rs, `Store::unknown`: "Poisons the domain after a failure past submission and returns the matching error."
 unfoldable pub unknown : Store → Op → OsError → ErrorContext → Store × Error

@@ -15,8 +15,7 @@ use Rattle.domain.specs.Domain.{firstKept}
 use Rattle.platform.specs.declared.Answer.{Answer}
 use Rattle.platform.specs.declared.Answer.the-variants as Answer
 use Rattle.completion.specs.declared.Reply.{Reply}
-use Rattle.model.specs.declared.Opening.{Opening}
-use Rattle.model.specs.declared.Lengths.{Lengths}
+use Rattle.model.specs.declared.{Opening.Opening, Lengths.Lengths}
 use Rattle.model.specs.declared.Call.the-variants as Call
 use Rattle.model.specs.State.{Region, State}
 use Rattle.model.specs.Opening.{Plan, atFirst}

@@ -8,15 +8,10 @@ use mathlib.Core.List.{List}
 use mathlib.Core.Option.{Option}
 use Prim.Native.Nat.{ℕ}
 use Rattle.regionmap.specs.declared.Position.{Position}
-use Rattle.domain.specs.declared.Op.{Op}
-use Rattle.domain.specs.declared.OsError.{OsError}
-use Rattle.domain.specs.declared.FirstCause.{FirstCause}
+use Rattle.domain.specs.declared.{Op.Op, OsError.OsError, FirstCause.FirstCause}
 use Rattle.domain.specs.declared.Poisoned.{Poisoned as Poison}
-use Rattle.completion.specs.declared.WriteTicket.{WriteTicket}
-use Rattle.completion.specs.declared.DurableReceipt.{DurableReceipt}
-use Rattle.model.specs.declared.Opening.{Opening}
-use Rattle.model.specs.declared.Kind.{Kind}
-use Rattle.model.specs.declared.Split.{Split}
+use Rattle.completion.specs.declared.{WriteTicket.WriteTicket, DurableReceipt.DurableReceipt}
+use Rattle.model.specs.declared.{Opening.Opening, Kind.Kind, Split.Split}
 use Rattle.model.specs.State.{Region}
 
 -- `Result<A, E>`

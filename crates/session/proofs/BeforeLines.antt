@@ -5,10 +5,10 @@ use Prim.Native.Nat.{ℕ}
 use types.Run.{OneOf, miss}
 use denote.Enum.Declared.{tagOf}
 use Rattle.model.specs.declared.Opening.{Opening}
-use Rattle.parser.specs.declared.opening.OpenLine.{OpenLine}
-use Rattle.parser.specs.declared.opening.OpenLine.the-variants.{Comment, Open, Region, Start, Bad}
+use Rattle.parser.specs.declared.preamble.OpenLine.{OpenLine}
+use Rattle.parser.specs.declared.preamble.OpenLine.the-variants.{Comment, Open, Region, Start, Bad}
 use Rattle.parser.specs.Openings.{openLineRead}
-use Rattle.parser.proofs.opening.OpenLine as OpenLineType
+use Rattle.parser.proofs.preamble.OpenLine as OpenLineType
 use Rattle.printer.specs.Texts.{badText}
 use Rattle.session.specs.declared.Stage.the-variants.{Before, Planned}
 use Rattle.session.specs.Unopened.{Stood, atStage, Tells, beforeLine}

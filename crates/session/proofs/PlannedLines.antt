@@ -13,10 +13,11 @@ use Rattle.layout.specs.Pick.{pick}
 use Rattle.model.specs.declared.Counts.{Counts}
 use Rattle.model.specs.declared.Opening.{Opening}
 use Rattle.model.specs.Memory.{Lent}
-use Rattle.parser.specs.declared.opening.OpenLine.{OpenLine}
-use Rattle.parser.specs.declared.opening.OpenLine.the-variants.{Comment, Open, Region, Start, Bad}
+use Rattle.fields.specs.Trace.{lineRead}
+use Rattle.parser.specs.declared.preamble.OpenLine.{OpenLine}
+use Rattle.parser.specs.declared.preamble.OpenLine.the-variants.{Comment, Open, Region, Start, Bad}
 use Rattle.parser.specs.Openings.{openLineIn, openLineRead, regionsAfter, planAfter}
-use Rattle.parser.proofs.opening.OpenLine as OpenLineType
+use Rattle.parser.proofs.preamble.OpenLine as OpenLineType
 use Rattle.printer.specs.Texts.{badText}
 use Rattle.session.specs.Start.{startedAs}
 use Rattle.session.specs.declared.Stage.the-variants.{Planned}
@@ -30,7 +31,7 @@ short-if false true x e = absurd (let z : _≡_ {A = ℕ} 0 1 = cc in omega arit
 short-if false false x e = absurd (let z : _≡_ {A = ℕ} 0 1 = cc in omega arith)
 
 pub region-short : (bytes : List ℕ) → Region ≡ openLineRead bytes → length bytes ≤ 4096
-unfolding openLineRead
+unfolding openLineRead lineRead
 region-short bytes e = leb-true (length bytes) 4096 (short-if (leb (length bytes) 4096) (eqb (getD bytes 0 0) 35) (openLineIn bytes) e)
 
 -- a line that is no `start`

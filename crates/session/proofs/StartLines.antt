@@ -13,7 +13,7 @@ use Rattle.completion.specs.declared.Reply.the-variants.{Ok}
 use Rattle.model.specs.declared.Counts.{Counts}
 use Rattle.model.specs.declared.Opening.{Opening}
 use Rattle.model.specs.declared.Row.{Row}
-use Rattle.model.specs.Laws.{fresh}
+use Rattle.model.specs.State.{fresh}
 use Rattle.model.specs.Memory.{Lent, lengthsOf, openedLent, lentAfter}
 use Rattle.model.specs.Opening.{opens}
 use Rattle.optable.specs.Called.{lentOf}

@@ -10,13 +10,13 @@ use Rattle.completion.specs.declared.Refusal.{Refusal}
 use Rattle.model.specs.declared.Opening.{Opening}
 use Rattle.model.specs.declared.Counts.{Counts}
 use Rattle.model.specs.declared.Row.{Row}
-use Rattle.model.specs.Laws.{fresh}
+use Rattle.model.specs.State.{fresh}
 use Rattle.model.specs.Memory.{Lent, lengthsOf}
 use Rattle.model.specs.Opening.{opens}
 use Rattle.optable.specs.Called.{lentOf}
-use Rattle.submitter.specs.declared.Opened.{Opened}
-use Rattle.submitter.specs.declared.Opened.the-variants.{Table as opened, No}
-use Rattle.submitter.specs.Open.{refused, OpensTo}
+use Rattle.opening.specs.declared.Opened.{Opened}
+use Rattle.opening.specs.declared.Opened.the-variants.{Table as opened, No}
+use Rattle.opening.specs.Opened.{refused, OpensTo}
 use Rattle.session.specs.declared.start.Started.{Started}
 use Rattle.session.specs.declared.start.Started.the-variants.{Table, Refused, TooLarge}
 use Rattle.session.specs.Start.{keeps, lentFor, opensIn, startedAs, StartsTo}

@@ -5,9 +5,8 @@ use mathlib.Core.List.{List, map}
 use Prim.Native.Nat.{ℕ}
 use lib.ListN.{take, drop}
 use Rattle.layout.specs.Pick.{pick}
-use Rattle.completion.specs.declared.Reply.the-variants.{Ok}
-use Rattle.model.specs.declared.Counts.{Counts}
-use Rattle.model.specs.declared.Row.{Row}
+use Rattle.completion.specs.declared.Reply.the-variants as Reply
+use Rattle.model.specs.declared.{Counts.Counts, Row.Row}
 use Rattle.model.specs.Memory.{settingsIn, stateIn}
 use Rattle.optable.specs.Called.{lentOf}
 use Rattle.printer.specs.Texts.{badText}
@@ -22,7 +21,7 @@ pub record FillsIn (b at n seed number : ℕ) (rows : List Row) (store owners po
   pub may-is : (c : Counts) (free ready : List ℕ) → Open c (lentOf rows store free ready owners pool)
       → may ≡ mayFill (stateIn c (lentOf rows store free ready owners pool)) b at n
   pub pool-is : pool′ ≡ pick may (filled (placeIn (settingsIn store .capacity) b at) n seed pool) pool
-  pub prints : text ≡ pick may (replayText Ok) (badText number)
+  pub prints : text ≡ pick may (replayText Reply.Ok) (badText number)
 
 -- `sum BUFFER AT LENGTH`; "so is `sum` outside the pool"
 unfoldable pub summed : ℕ → ℕ → ℕ → ℕ → List ℕ → List ℕ → List ℕ

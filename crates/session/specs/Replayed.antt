@@ -7,11 +7,10 @@ use Prim.Native.Nat.{ℕ}
 use Rattle.fields.specs.Trace.{Kept}
 use Rattle.optable.specs.Called.{lentOf}
 use Rattle.input.specs.Input.{Turned as TurnedIn}
-use Rattle.session.specs.declared.Stage.{Stage}
-use Rattle.session.specs.declared.Stage.the-variants.{Before, Planned, Table, Refused, Over}
+use Rattle.session.specs.declared.{Stage.Stage, turn.Running.Running}
+use Rattle.session.specs.declared.Stage.the-variants as Stage
 use Rattle.session.specs.Unopened.{Stood, stoodAt}
 use Rattle.session.specs.Lines.{Line}
-use Rattle.session.specs.declared.turn.Running.{Running}
 
 -- where a trace stands, in the program's memory
 abbrev pub standing : Running → List ℕ → List ℕ → List ℕ → List ℕ → List ℕ → List ℕ → Stood
@@ -31,8 +30,8 @@ Turned r r′ line line′ chunk chunk′ s s′ = TurnedIn Leaves (r .from) (r�
 
 -- whether the program ends: "prints `limit`, and the program ends", or the input has ended
 unfoldable pub overAt : Stage → Bool → Bool
-overAt Before ended = ended
-overAt (Planned o) ended = ended
-overAt (Table k) ended = ended
-overAt Refused ended = ended
-overAt Over ended = true
+overAt Stage.Before ended = ended
+overAt (Stage.Planned o) ended = ended
+overAt (Stage.Table k) ended = ended
+overAt Stage.Refused ended = ended
+overAt Stage.Over ended = true

@@ -7,13 +7,11 @@ use Prim.Native.Nat.{ℕ, _*_}
 use lib.ListN.{length, take}
 use lib.Dec.{leb}
 use Rattle.layout.specs.Pick.{pick}
-use Rattle.model.specs.declared.Opening.{Opening}
-use Rattle.model.specs.declared.Lengths.{Lengths}
-use Rattle.model.specs.declared.Row.{Row}
+use Rattle.model.specs.declared.{Opening.Opening, Lengths.Lengths, Row.Row}
 use Rattle.model.specs.Opening.{storeWords, readyWords, opens}
 use Rattle.model.specs.Memory.{Lent, lengthsOf, lentAfter}
 use Rattle.session.specs.declared.start.Started.{Started}
-use Rattle.session.specs.declared.start.Started.the-variants.{Table, Refused, TooLarge}
+use Rattle.session.specs.declared.start.Started.the-variants as Started
 
 -- a row memory just as long as the opening needs, and a pool of "exactly count × capacity bytes": with these only the opening's own rules are asked
 unfoldable pub lengthsFor : Opening → Lengths
@@ -48,7 +46,7 @@ opensIn o plan l = opens o plan (lengthsOf (lentFor o l))
 
 -- "opens the table and prints `ok`", "keeps all rules but is larger", "breaks a rule"
 unfoldable pub startedAs : Opening → List ℕ → Lent → Started
-startedAs o plan l = pick (opensIn o plan l) Table (pick (keeps o plan) TooLarge Refused)
+startedAs o plan l = pick (opensIn o plan l) Started.Table (pick (keeps o plan) Started.TooLarge Started.Refused)
 
 pub record StartsTo (o : Opening) (plan : List ℕ) (l : Lent) (r : Started) (rows : List Row) (store free ready owners : List ℕ) : Type 0 where
   pub started : r ≡ startedAs o plan l

@@ -4,13 +4,12 @@ use mathlib.Core.List.{List, []}
 use Prim.Native.Nat.{ℕ, _-_}
 use lib.ListN.{length, take}
 use Rattle.completion.specs.declared.Reply.{Reply}
-use Rattle.model.specs.declared.Counts.{Counts}
-use Rattle.model.specs.declared.Lookup.{Lookup}
-use Rattle.model.specs.declared.Lookup.the-variants.{WritesLive}
+use Rattle.model.specs.declared.{Counts.Counts, Lookup.Lookup}
+use Rattle.model.specs.declared.Lookup.the-variants as Lookup
 use Rattle.model.specs.Memory.{Lent}
 use Rattle.optable.specs.Called.{lentOf, LooksTo}
 use Rattle.parser.specs.declared.forms.Said.{Said}
-use Rattle.parser.specs.declared.forms.Said.the-variants.{Comment, Call as callSaid, Own, Count, Look, Len, Fill, Sum, Rows, Bad}
+use Rattle.parser.specs.declared.forms.Said.the-variants as Said
 use Rattle.parser.specs.Asks.{asksOf}
 use Rattle.printer.specs.Texts.{badText}
 use Rattle.printer.specs.Replay.{replayText}
@@ -51,14 +50,14 @@ Lists h h′ text = (h′ ≡ h) × ListsIn (h .counts) (h .lent .rows) (h .lent
 
 -- a line's answer; `a`, `w` and `r` ask for the call that the last flush count and handle 0 make of them
 unfoldable pub Answers : Said → ℕ → Held → Held → List ℕ → Type 0
-Answers Comment number h h′ text = Still h h′ text []
-Answers (callSaid c) number h h′ text = Ran c h h′ text
-Answers (Own write b p n durable tag) number h h′ text =
-    Asked (asksOf (Own write b p n durable tag) (namedIn (h .lent .store)) (h .flushes)) number h h′ text
-Answers (Count t n) number h h′ text = Asked (asksOf (Count t n) (namedIn (h .lent .store)) (h .flushes)) number h h′ text
-Answers (Look x) number h h′ text = Looks x (h .lent) h h′ text
-Answers Len number h h′ text = Looks WritesLive (shorter (h .lent)) h h′ text
-Answers (Fill b at n seed) number h h′ text = Fills b at n seed number h h′ text
-Answers (Sum b at n) number h h′ text = Still h h′ text (summed b at n number (h .lent .store) (h .lent .pool))
-Answers Rows number h h′ text = Lists h h′ text
-Answers Bad number h h′ text = Still h h′ text (badText number)
+Answers Said.Comment number h h′ text = Still h h′ text []
+Answers (Said.Call c) number h h′ text = Ran c h h′ text
+Answers (Said.Own write b p n durable tag) number h h′ text =
+    Asked (asksOf (Said.Own write b p n durable tag) (namedIn (h .lent .store)) (h .flushes)) number h h′ text
+Answers (Said.Count t n) number h h′ text = Asked (asksOf (Said.Count t n) (namedIn (h .lent .store)) (h .flushes)) number h h′ text
+Answers (Said.Look x) number h h′ text = Looks x (h .lent) h h′ text
+Answers Said.Len number h h′ text = Looks Lookup.WritesLive (shorter (h .lent)) h h′ text
+Answers (Said.Fill b at n seed) number h h′ text = Fills b at n seed number h h′ text
+Answers (Said.Sum b at n) number h h′ text = Still h h′ text (summed b at n number (h .lent .store) (h .lent .pool))
+Answers Said.Rows number h h′ text = Lists h h′ text
+Answers Said.Bad number h h′ text = Still h h′ text (badText number)

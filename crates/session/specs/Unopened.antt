@@ -4,24 +4,22 @@ use mathlib.Core.Path.{_≡_}
 use mathlib.Core.List.{List, [], _∷_}
 use Prim.Native.Nat.{ℕ}
 use lib.ListN.{length}
-use Rattle.completion.specs.declared.Refusal.the-variants.{Unfit}
-use Rattle.completion.specs.declared.Reply.the-variants.{No as turnedAway, Ok}
-use Rattle.model.specs.declared.Counts.{Counts}
-use Rattle.model.specs.declared.Opening.{Opening}
+use Rattle.completion.specs.declared.Refusal.the-variants as Refusal
+use Rattle.completion.specs.declared.Reply.the-variants as Reply
+use Rattle.model.specs.declared.{Counts.Counts, Opening.Opening}
 use Rattle.model.specs.Memory.{Lent, lentAfter}
-use Rattle.model.specs.Laws.{fresh}
+use Rattle.model.specs.State.{fresh}
 use Rattle.optable.specs.Called.{lentOf}
-use Rattle.parser.specs.declared.opening.OpenLine.{OpenLine}
-use Rattle.parser.specs.declared.opening.OpenLine.the-variants.{Comment, Open, Region, Start, Bad}
+use Rattle.parser.specs.declared.preamble.OpenLine.{OpenLine}
+use Rattle.parser.specs.declared.preamble.OpenLine.the-variants as OpenLine
 use Rattle.parser.specs.Openings.{regionsAfter, planAfter}
 use Rattle.printer.specs.Texts.{badText}
 use Rattle.printer.specs.Replay.{replayText}
 use Rattle.fields.specs.Codes.{codes}
-use Rattle.session.specs.declared.start.Started.{Started}
-use Rattle.session.specs.declared.start.Started.the-variants.{Table as opened, Refused as broken, TooLarge}
+use Rattle.session.specs.declared.{start.Started.Started, Stage.Stage}
+use Rattle.session.specs.declared.start.Started.the-variants as Started
 use Rattle.session.specs.Start.{lentFor, startedAs}
-use Rattle.session.specs.declared.Stage.{Stage}
-use Rattle.session.specs.declared.Stage.the-variants.{Before, Planned, Table, Refused, Over}
+use Rattle.session.specs.declared.Stage.the-variants as Stage
 
 -- where a trace stands: the stage, the plan as far as its lines have come, "the flush count last given, 0 at first", the counts and the program's
 -- memory
@@ -56,15 +54,15 @@ limitText = codes "limit\n"
 
 -- `no 13`
 unfoldable pub noText13 : List ℕ
-noText13 = replayText (turnedAway Unfit)
+noText13 = replayText (Reply.No Refusal.Unfit)
 
 -- before `open`
 unfoldable pub beforeLine : OpenLine → ℕ → Stood → Told
-beforeLine Comment n s = told (atStage Before s) []
-beforeLine (Open o) n s = told (atStage (Planned o) s) []
-beforeLine Region n s = told (atStage Before s) (badText n)
-beforeLine Start n s = told (atStage Before s) (badText n)
-beforeLine Bad n s = told (atStage Before s) (badText n)
+beforeLine OpenLine.Comment n s = told (atStage Stage.Before s) []
+beforeLine (OpenLine.Open o) n s = told (atStage (Stage.Planned o) s) []
+beforeLine OpenLine.Region n s = told (atStage Stage.Before s) (badText n)
+beforeLine OpenLine.Start n s = told (atStage Stage.Before s) (badText n)
+beforeLine OpenLine.Bad n s = told (atStage Stage.Before s) (badText n)
 
 -- "`region` stands once for each region, in the order of the handles"
 unfoldable pub withRegions : ℕ → Opening → Opening
@@ -86,7 +84,7 @@ withRegions n o = record {
 
 unfoldable pub withRegion : Opening → List ℕ → Stood → Stood
 withRegion o bytes s =
-    stoodAt (Planned (withRegions (regionsAfter (o .regions)) o)) (planAfter bytes (o .regions) (s .plan)) (s .flushes) (s .counts) (s .lent)
+    stoodAt (Stage.Planned (withRegions (regionsAfter (o .regions)) o)) (planAfter bytes (o .regions) (s .plan)) (s .flushes) (s .counts) (s .lent)
 
 -- the program's memory with what an opening left in it; "The pool starts as zeros": its bytes are not touched
 unfoldable pub lentOpened : Opening → List ℕ → Lent → Lent
@@ -97,15 +95,16 @@ lentOpened o plan l =
 -- "`start` opens the table and prints `ok`, or `no 13` where the opening breaks a rule"; "An opening that keeps all rules but is larger than the
 -- program's own memory .. prints `limit`, and the program ends." The first bytes of the pool are lent, as many as the stage says.
 unfoldable pub startLine : Started → Opening → Stood → Told
-startLine opened o s =
-    told (stoodAt (Table (length (lentFor o (s .lent) .pool))) (s .plan) (s .flushes) fresh (lentOpened o (s .plan) (s .lent))) (replayText Ok)
-startLine broken o s = told (atStage Refused s) noText13
-startLine TooLarge o s = told (atStage Over s) limitText
+startLine Started.Table o s =
+    told (stoodAt (Stage.Table (length (lentFor o (s .lent) .pool))) (s .plan) (s .flushes) fresh (lentOpened o (s .plan) (s .lent)))
+    (replayText Reply.Ok)
+startLine Started.Refused o s = told (atStage Stage.Refused s) noText13
+startLine Started.TooLarge o s = told (atStage Stage.Over s) limitText
 
 -- between `open` and `start`
 unfoldable pub plannedLine : OpenLine → Opening → List ℕ → ℕ → Stood → Told
-plannedLine Comment o bytes n s = told (atStage (Planned o) s) []
-plannedLine (Open x) o bytes n s = told (atStage (Planned o) s) (badText n)
-plannedLine Region o bytes n s = told (withRegion o bytes s) []
-plannedLine Start o bytes n s = startLine (startedAs o (s .plan) (s .lent)) o s
-plannedLine Bad o bytes n s = told (atStage (Planned o) s) (badText n)
+plannedLine OpenLine.Comment o bytes n s = told (atStage (Stage.Planned o) s) []
+plannedLine (OpenLine.Open x) o bytes n s = told (atStage (Stage.Planned o) s) (badText n)
+plannedLine OpenLine.Region o bytes n s = told (withRegion o bytes s) []
+plannedLine OpenLine.Start o bytes n s = startLine (startedAs o (s .plan) (s .lent)) o s
+plannedLine OpenLine.Bad o bytes n s = told (atStage (Stage.Planned o) s) (badText n)

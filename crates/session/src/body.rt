@@ -53,7 +53,7 @@ pub fn table_line(
     ensures bounded { λ a. ⌜ a .printed ≤ 4096 ⌝ }
 {
     let said = parser::lines::finish(r, text);
-    let k = optable::smaller(n, pool.len());
+    let k = layout::lesser(n, pool.len());
     let a = crate::table::answer(
         said,
         number,

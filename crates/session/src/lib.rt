@@ -6,10 +6,12 @@
 // calls: the call that a line asks for.
 // hostlines: `fill`, `sum` and `rows`.
 // turn: a turn of a program, which goes on in the input and prints the answer.
+// program: the programs themselves.
 pub mod body;
 pub mod calls;
 pub mod hostlines;
 pub mod preamble;
+pub mod program;
 pub mod start;
 pub mod table;
 pub mod turn;

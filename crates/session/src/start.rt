@@ -8,7 +8,7 @@ ghost use Rattle.session.specs.Start.{keeps, StartsTo};
 use model::Lengths;
 use model::Opening;
 use model::Row;
-use submitter::Opened;
+use opening::Opened;
 
 // What became of an opening.
 pub enum Started {

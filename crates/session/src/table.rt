@@ -1,6 +1,5 @@
 // A line of an open table is answered: the call, the lookup or what the host does, and the line that is printed.
-ghost use mathlib.Core.Path.{_≡_};
-ghost use Prim.Native.Nat.{_-_, _≤_};
+ghost use Prim.Native.Nat.{_≤_};
 ghost use lib.ListN.{take};
 ghost use Rattle.optable.specs.Called.{lentOf};
 ghost use Rattle.session.specs.Asking.{heldOf};
@@ -31,16 +30,6 @@ fn look(
     printer::output::say_reply(reply, out)
 }
 
-// One less; of 0, 0.
-fn one_less(n: usize) -> usize
-    ensures { λ r. ⌜ r ≡ n - 1 ⌝ }
-{
-    if n == 0 {
-        return 0;
-    }
-    n - 1
-}
-
 // `len`: the free stack is lent without its last word.
 fn len_line(
     counts: Counts,
@@ -56,7 +45,7 @@ fn len_line(
         (shorter (lentOf rows (now (store .entry)) (now (free .entry)) (now (ready .entry)) (now (owners .entry)) (now (pool .entry))))
         (take r (now (out .exit))) ⌝ }
 {
-    let k = one_less(free.len());
+    let k = layout::one_less(free.len() as u64) as usize;
     look(
         Lookup::WritesLive,
         counts,

@@ -3,7 +3,7 @@
 ghost use mathlib.Core.Path.{_≡_};
 ghost use lib.ListN.{replicate};
 ghost use Rattle.model.specs.State.{freed};
-ghost use Rattle.model.specs.Laws.{fresh};
+ghost use Rattle.model.specs.State.{fresh};
 ghost use Rattle.session.specs.Replayed.{standing, Answers, Turned, overAt};
 use crate::Stage;
 use input::Input;
@@ -99,11 +99,7 @@ pub fn begun(from: Input) -> Running
     Running {
         stage: Stage::Before,
         rows: [optable::freed_row(0); 64],
-        counts: Counts {
-            live: 0,
-            ready: 0,
-            submissions: 0,
-        },
+        counts: opening::fresh(),
         flushes: 0,
         from,
     }

@@ -3,9 +3,9 @@
 ghost use mathlib.Core.Path.{_≡_};
 ghost use Prim.Native.Nat.{_<_, _^_};
 ghost use Rattle.regionmap.specs.Map.{Map};
-ghost use Rattle.model.specs.declared.Kind.the-variants.{Page as page};
 ghost use Rattle.step.specs.Rules.{ticketOf, unflushed, writtenAs};
 ghost use Rattle.settle.specs.Finished.{turnedBy, planWith, Tells};
+ghost use Rattle.model.specs.declared.Kind.the-variants as Kind;
 use crate::End;
 use crate::Finished;
 use crate::Turn;
@@ -26,7 +26,7 @@ pub fn ticket(
     end: Position,
     flushes: u64,
 ) -> WriteTicket
-    ensures { λ r. ⌜ ((m : Map) → g .generation < 2 ^ 32 → r ≡ ticketOf o (planWith g m) (page start end) flushes) ⌝ }
+    ensures { λ r. ⌜ ((m : Map) → g .generation < 2 ^ 32 → r ≡ ticketOf o (planWith g m) (Kind.Page start end) flushes) ⌝ }
 {
     let generation = (g.generation % 4294967296) as u32;
     let raised = domain::ticket(flushes);

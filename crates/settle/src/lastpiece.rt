@@ -4,7 +4,6 @@
 ghost use mathlib.Core.Path.{_≡_};
 ghost use Prim.Native.Nat.{ℕ, _<_, _^_};
 ghost use Rattle.regionmap.specs.Map.{Map};
-ghost use Rattle.model.specs.declared.Kind.the-variants.{Read as read, Page as page};
 ghost use Rattle.model.specs.declared.Opening.{Opening};
 ghost use Rattle.model.specs.declared.Row.{Row};
 ghost use Rattle.domain.specs.declared.Poisoned.{Poisoned};
@@ -83,7 +82,7 @@ pub fn last_read(
     back: bool,
 ) -> Finished
     ensures { λ r. ⌜ ((o : Opening) (m : Map) (first : Poisoned) (row : Row) (flushes : ℕ) → row .buffer ≡ buffer → CountFits s answer
-        → Tells r (λ bytes. lastPiece o (planWith g m) (g .forced) first row (read start end) s bytes answer back flushes)) ⌝ }
+        → Tells r (λ bytes. lastPiece o (planWith g m) (g .forced) first row (Kind.Read start end) s bytes answer back flushes)) ⌝ }
 {
     let range = Range {
         region: g.id,
@@ -119,7 +118,7 @@ pub fn failed_write(
     back: bool,
 ) -> Finished
     ensures { λ r. ⌜ ((o : Opening) (m : Map) (first : Poisoned) (row : Row) (flushes : ℕ) → row .buffer ≡ buffer → isWritten s answer back ≡ false
-        → Tells r (λ bytes. lastPiece o (planWith g m) (g .forced) first row (page start end) s bytes answer back flushes)) ⌝ }
+        → Tells r (λ bytes. lastPiece o (planWith g m) (g .forced) first row (Kind.Page start end) s bytes answer back flushes)) ⌝ }
 {
     let cause = FirstCause {
         op: Op::Write,
@@ -152,7 +151,7 @@ fn last_write(
     flushes: u64,
 ) -> Finished
     ensures { λ r. ⌜ ((m : Map) → g .generation < 2 ^ 32
-        → Tells r (λ bytes. lastPiece o (planWith g m) (g .forced) first row (page start end) s bytes answer back flushes)) ⌝ }
+        → Tells r (λ bytes. lastPiece o (planWith g m) (g .forced) first row (Kind.Page start end) s bytes answer back flushes)) ⌝ }
 {
     if !is_written(s, answer, back) {
         return failed_write(g, row.buffer, start, end, s, answer, back);

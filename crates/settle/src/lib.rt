@@ -26,7 +26,7 @@ use model::Awaits;
 use model::Split;
 use platform::Answer;
 
-// The first bytes of the operation's buffer, as many as its length, turn left by so much.
+// The first bytes of the operation's buffer, as many as its length, turn left by so much (D-29).
 pub struct Turn {
     pub total: u64,
     pub by: u64,

@@ -22,8 +22,8 @@ use Rattle.model.specs.declared.Awaits.the-variants.{Nothing, Piece, Flush}
 use Rattle.model.specs.declared.Row.{Row}
 use Rattle.model.specs.State.{State}
 use Rattle.model.specs.Opening.{Plan}
-use Rattle.step.specs.Questions.{regionAt}
-use Rattle.step.specs.Rules.{Input, firstOf, pieceOf, pieceLength, rangeStart, rangeEnd}
+use Rattle.step.specs.Questions.{byteAt, regionAt}
+use Rattle.step.specs.Rules.{leftOf, Input, firstOf, pieceOf, pieceLength, rangeStart, rangeEnd}
 use Rattle.step.specs.Step.{rowAt, isLive, planOf}
 use Rattle.step.specs.Sound.{SplitFits, InTable, Sound}
 use Rattle.step.specs.Lists.{loose, planAt, takesWhole, wroteBy}
@@ -41,8 +41,8 @@ wrote-byte g Nothing bytes i card y = refl
 wrote-byte g (Piece (Page a b) s) bytes i card y = by-test (takesWhole (pieceLength g (Page a b) s) i)
   where
     by-test : (t : Bool)
-        → pick t (pwrite card (place (g .map) (a .0 + s .done)) (take (pieceLength g (Page a b) s) bytes)) card y
-        ≡ pick {A = Card} t (pwrite (λ z. card y) (place (g .map) (a .0 + s .done)) (take (pieceLength g (Page a b) s) bytes)) (λ z. card y) y
+        → pick t (pwrite card (place (g .map) (byteAt (a .0) (s .done))) (take (pieceLength g (Page a b) s) bytes)) card y
+        ≡ pick {A = Card} t (pwrite (λ z. card y) (place (g .map) (byteAt (a .0) (s .done))) (take (pieceLength g (Page a b) s) bytes)) (λ z. card y) y
     by-test true = refl
     by-test false = refl
 wrote-byte g (Piece (Read a b) s) bytes i card y = refl
@@ -53,7 +53,7 @@ pub wrote-alike : (g : Plan) (a : Awaits) (bytes bytes′ : List ℕ) (i : Optio
 unfolding wroteBy loose
 wrote-alike g Nothing bytes bytes′ i card e = refl
 wrote-alike g (Piece (Page a b) s) bytes bytes′ i card e =
-    ap (λ (bs : List ℕ). pick (takesWhole (pieceLength g (Page a b) s) i) (pwrite card (place (g .map) (a .0 + s .done)) (take (pieceLength g (Page a b) s) bs)) card) e
+    ap (λ (bs : List ℕ). pick (takesWhole (pieceLength g (Page a b) s) i) (pwrite card (place (g .map) (byteAt (a .0) (s .done))) (take (pieceLength g (Page a b) s) bs)) card) e
 wrote-alike g (Piece (Read a b) s) bytes bytes′ i card e = refl
 wrote-alike g (Flush t) bytes bytes′ i card e = refl
 
@@ -80,11 +80,11 @@ module _ (s : State) (i : Sound s) (r : Row) (t : InTable s r) (a b : Position) 
   unfolding rangeEnd
   in-data = subst (λ (w : Awaits). rangeEnd w ≤ m .dataLength) at (t .in-data)
 
-  one-piece : OnePiece m (a .0 + sp .done) (sp .total - sp .done)
-  one-piece = map-laws .one-piece m (i .each (r .handle) (t .region) .lawful) (a .0 + sp .done) (sp .total - sp .done) (let z = split in omega arith) (let z = split in let d = in-data in omega arith)
+  one-piece : OnePiece m (byteAt (a .0) (sp .done)) (leftOf sp)
+  one-piece = map-laws .one-piece m (i .each (r .handle) (t .region) .lawful) (byteAt (a .0) (sp .done)) (leftOf sp) (let z = split in omega arith) (let z = split in let d = in-data in omega arith)
 
   -- a byte of the piece is one that its range is mapped to
-  in-range : (j : ℕ) → j < pieceSize m (a .0 + sp .done) (sp .total - sp .done) → (y : ℕ) → place m (a .0 + sp .done) + j ≡ y → Mapped s r y
+  in-range : (j : ℕ) → j < pieceSize m (byteAt (a .0) (sp .done)) (leftOf sp) → (y : ℕ) → place m (byteAt (a .0) (sp .done)) + j ≡ y → Mapped s r y
   unfolding rangeStart rangeEnd
   in-range j lt y e = record {
     i = sp .done + j;
@@ -103,7 +103,7 @@ wrote-beside g Nothing bytes i card y n = refl
 wrote-beside g (Piece (Page a b) sp) bytes i card y n =
     let size = pieceLength g (Page a b) sp in
     by-pick (takesWhole size i) (λ (after : Card). after y ≡ card y)
-    (λ taken. transfer-laws .others card (place (g .map) (a .0 + sp .done)) (take size bytes) y (λ j lt e. n (record { j = j; inside = omega (arith, lt, length-take size bytes); at = e })))
+    (λ taken. transfer-laws .others card (place (g .map) (byteAt (a .0) (sp .done))) (take size bytes) y (λ j lt e. n (record { j = j; inside = omega (arith, lt, length-take size bytes); at = e })))
     (λ not. refl)
 wrote-beside g (Piece (Read a b) sp) bytes i card y n = refl
 wrote-beside g (Flush t) bytes i card y n = refl

@@ -35,7 +35,7 @@ use Rattle.model.specs.declared.Awaits.the-variants.{Piece, Flush}
 use Rattle.model.specs.declared.Row.{Row}
 use Rattle.model.specs.State.{State, freed}
 use Rattle.model.specs.Opening.{Plan}
-use Rattle.step.specs.Questions.{regionAt}
+use Rattle.step.specs.Questions.{byteAt, regionAt}
 use Rattle.step.specs.Rules.{firstOf, pieceLength, isWhole, splitAfter, Input, Input.answered, Input.flushed, Fate, Fate.away, Fate.awaits, Fate.ends, answerRules, flushRules, flushEnds, flushOutcome, ticketOf, rules}
 use Rattle.step.specs.Step.{rowAt, rowOf, isLive, names, bytesAt, raised, awaitsNow, completionOf, poisonWith, planOf, going, freeing, settled, fateOf, underTag, eqLengths}
 use Rattle.step.specs.Sound.{Sound}
@@ -170,9 +170,9 @@ its-ticket w flushes durable =
 
 -- what a whole piece writes, of a write and of a read
 wrote-page : (g : Plan) (k : Kind) (sp : Split) (bytes : List ℕ) (x : Answer) (back : Bool) (flushes : ℕ) (card : Card) → pages k ≡ true → isWhole (pieceLength g k sp) x ≡ true
-    → wroteBy g (Piece k sp) bytes (some (answered x back flushes)) card ≡ pwrite card (place (g .map) (firstOf k .0 + sp .done)) (take (pieceLength g k sp) bytes)
+    → wroteBy g (Piece k sp) bytes (some (answered x back flushes)) card ≡ pwrite card (place (g .map) (byteAt (firstOf k .0) (sp .done))) (take (pieceLength g k sp) bytes)
 unfolding wroteBy takesWhole firstOf pages pick
-wrote-page g (Page a b) sp bytes x back flushes card page whole = ap (λ (t : Bool). pick t (pwrite card (place (g .map) (a .0 + sp .done)) (take (pieceLength g (Page a b) sp) bytes)) card) whole
+wrote-page g (Page a b) sp bytes x back flushes card page whole = ap (λ (t : Bool). pick t (pwrite card (place (g .map) (byteAt (a .0) (sp .done))) (take (pieceLength g (Page a b) sp) bytes)) card) whole
 wrote-page g (Read a b) sp bytes x back flushes card page whole = absurd (not-both page refl)
 
 wrote-read : (g : Plan) (k : Kind) (sp : Split) (bytes : List ℕ) (v : Option Input) (card : Card) → pages k ≡ false → wroteBy g (Piece k sp) bytes v card ≡ card

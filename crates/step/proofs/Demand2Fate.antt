@@ -24,7 +24,7 @@ use Rattle.model.specs.declared.Split.{Split}
 use Rattle.model.specs.declared.Awaits.the-variants.{Piece, Flush}
 use Rattle.model.specs.declared.Row.{Row}
 use Rattle.model.specs.Opening.{Plan}
-use Rattle.step.specs.Rules.{pieceLength, Fate, Fate.awaits, Fate.ends, bufferAs, turnedBack, isWritten, readOutcome, readLength, ticketOf, writtenAs, lastPiece, abovePiece, firstRefused, isRefusal, isWhole, goesOn, splitAfter, pieceAnswered}
+use Rattle.step.specs.Rules.{leftOf, pieceLength, Fate, Fate.awaits, Fate.ends, bufferAs, turnedBack, isWritten, readOutcome, readLength, ticketOf, writtenAs, lastPiece, abovePiece, firstRefused, isRefusal, isWhole, goesOn, splitAfter, pieceAnswered}
 use Rattle.step.specs.Demand2.{durablyTo, writtenTo}
 use Rattle.step.proofs.Picked.{by-pick}
 use Rattle.step.proofs.Fates.{goes-on-left}
@@ -43,8 +43,8 @@ pub record EndsAs (o : Opening) (g : Plan) (forced : Bool) (first : Poisoned) (f
 module _ (o : Opening) (g : Plan) (forced : Bool) (first : Poisoned) (flushes : ℕ) (r : Row) (k : Kind) (sp : Split) (n : ℕ) (bytes : List ℕ) (f : Fate) where
   pub data Whole : Type 0 where
     next-piece : sp .done + n < sp .total → f ≡ awaits (Piece k (splitAfter n sp)) (turned (sp .total) n bytes) → Whole
-    its-flush : pages k ≡ true → r .durable ≡ true → sp .done + n ≡ sp .total → f ≡ awaits (Flush (ticketOf o g k flushes)) (turned (sp .total) (sp .total - sp .done) bytes) → Whole
-    completes : sp .done + n ≡ sp .total → (x : Outcome) → (pages k ≡ false → x ≡ readTo (sp .total)) → (pages k ≡ true → EndsAs o g forced first flushes r k x) → f ≡ ends (record { outcome = x; buffer = Back (r .buffer) (sp .total); bytes = turned (sp .total) (sp .total - sp .done) bytes; cause = none }) → Whole
+    its-flush : pages k ≡ true → r .durable ≡ true → sp .done + n ≡ sp .total → f ≡ awaits (Flush (ticketOf o g k flushes)) (turned (sp .total) (leftOf sp) bytes) → Whole
+    completes : sp .done + n ≡ sp .total → (x : Outcome) → (pages k ≡ false → x ≡ readTo (sp .total)) → (pages k ≡ true → EndsAs o g forced first flushes r k x) → f ≡ ends (record { outcome = x; buffer = Back (r .buffer) (sp .total); bytes = turned (sp .total) (leftOf sp) bytes; cause = none }) → Whole
 
 whole-count : (n : ℕ) (x : Answer) → isWhole n x ≡ true → x ≡ Count n
 unfolding isWhole
@@ -57,7 +57,7 @@ module _ (o : Opening) (g : Plan) (forced : Bool) (first : Poisoned) (r : Row) (
   -- the last piece
   last-whole : (k : Kind) (n flushed : ℕ) → sp .done + n ≡ sp .total → Whole o g forced first flushed r k sp n bytes (lastPiece o g forced first r k sp bytes (Count n) true flushed)
   unfolding lastPiece readOutcome readLength bufferAs turnedBack isWritten writtenAs durablyTo writtenTo pages pick
-  last-whole (Read a b) n flushed e = completes e (readTo (sp .done + n)) (λ z. ap readTo e) (λ z. absurd (not-both z refl)) (ap (λ (l : ℕ). ends (record { outcome = readTo (sp .done + n); buffer = Back (r .buffer) l; bytes = turned (sp .total) (sp .total - sp .done) bytes; cause = none })) e)
+  last-whole (Read a b) n flushed e = completes e (readTo (sp .done + n)) (λ z. ap readTo e) (λ z. absurd (not-both z refl)) (ap (λ (l : ℕ). ends (record { outcome = readTo (sp .done + n); buffer = Back (r .buffer) l; bytes = turned (sp .total) (leftOf sp) bytes; cause = none })) e)
   last-whole (Page a b) n flushed e =
       let t = ticketOf o g (Page a b) flushed in
       by-pick _ (Whole o g forced first flushed r (Page a b) sp n bytes)

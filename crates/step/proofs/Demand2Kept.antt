@@ -38,8 +38,8 @@ use Rattle.model.specs.declared.Awaits.the-variants.{Nothing, Piece, Flush}
 use Rattle.model.specs.declared.Row.{Row}
 use Rattle.model.specs.State.{State, Region, freed}
 use Rattle.model.specs.Opening.{Plan}
-use Rattle.step.specs.Questions.{regionAt}
-use Rattle.step.specs.Rules.{firstOf, pieceOf, pieceLength, splitAfter, flushEnds, isWritten, lastPiece, abovePiece, firstRefused, isWhole, goesOn, pieceAnswered, answerRules, flushRules, rules, Input, Input.answered, Input.flushed, Fate, Fate.away, Fate.awaits, Fate.ends, Fate.rejected, rangeEnd}
+use Rattle.step.specs.Questions.{byteAt, regionAt}
+use Rattle.step.specs.Rules.{leftOf, firstOf, pieceOf, pieceLength, splitAfter, flushEnds, isWritten, lastPiece, abovePiece, firstRefused, isWhole, goesOn, pieceAnswered, answerRules, flushRules, rules, Input, Input.answered, Input.flushed, Fate, Fate.away, Fate.awaits, Fate.ends, Fate.rejected, rangeEnd}
 use Rattle.step.specs.Step.{rowAt, rowOf, names, isLive, planOf, bytesAt, raised, awaitsNow, completionOf, going, freeing, settled, fateOf}
 use Rattle.step.specs.Sound.{Sound, SplitFits}
 use Rattle.step.specs.Run.{Event, leave, done, next, replyTo}
@@ -66,7 +66,7 @@ use Rattle.step.proofs.Demand2Event.{getsOf, away-same, heard-settles}
 -- the map's pieces from the one under way on
 unfoldable pub comesOf : Plan → Awaits → List MapPiece
 comesOf g Nothing = []
-comesOf g (Piece k sp) = pieces (g .map) (firstOf k .0 + sp .done) (sp .total - sp .done)
+comesOf g (Piece k sp) = pieces (g .map) (byteAt (firstOf k .0) (sp .done)) (leftOf sp)
 comesOf g (Flush t) = []
 
 abbrev pub comes : State → ℕ → List MapPiece
@@ -76,7 +76,7 @@ comes s t = comesOf (planAt s (rowAt s (rowOf t))) (rowAt s (rowOf t) .awaits)
 first-comes : (s : State) → Sound s → (r : ℕ) (a b : Position) (sp : Split) → rowAt s r .awaits ≡ Piece (Page a b) sp
     → let g = planAt s (rowAt s r) in
     let c = pieceLength g (Page a b) sp in
-    comesOf g (Piece (Page a b) sp) ≡ record { position = a .0 + sp .done; count = c } ∷ comesOf g (Piece (Page a b) (splitAfter c sp))
+    comesOf g (Piece (Page a b) sp) ≡ record { position = byteAt (a .0) (sp .done); count = c } ∷ comesOf g (Piece (Page a b) (splitAfter c sp))
 unfolding comesOf pieceLength pieceOf splitAfter planAt planOf firstOf
 first-comes s sound r a b sp at =
     let it = live-in-table s sound r (unfold isLive in ap isLive at) in
@@ -85,10 +85,10 @@ first-comes s sound r a b sp at =
     let sum = fits .0 in
     let more = fits .1 in
     let c = pieceLength (planAt s (rowAt s r)) (Page a b) sp in
-    let next : a .0 + sp .done + c ≡ a .0 + (sp .done + c) = omega arith in
-    let less : sp .total - sp .done - c ≡ sp .total - (sp .done + c) = omega arith in
-    first-piece m (sound .each (rowAt s r .handle) (it .region) .lawful) (a .0 + sp .done) (sp .total - sp .done) (omega (arith, more)) (omega (arith, within, sum, more))
-    ∙ (λ j. record { position = a .0 + sp .done; count = c } ∷ pieces m (next j) (less j))
+    let next : byteAt (a .0) (sp .done) + c ≡ a .0 + (sp .done + c) = omega arith in
+    let less : leftOf sp - c ≡ sp .total - (sp .done + c) = omega arith in
+    first-piece m (sound .each (rowAt s r .handle) (it .region) .lawful) (byteAt (a .0) (sp .done)) (leftOf sp) (omega (arith, more)) (omega (arith, within, sum, more))
+    ∙ (λ j. record { position = byteAt (a .0) (sp .done); count = c } ∷ pieces m (next j) (less j))
   where
     m : Map
     m = regionAt s (rowAt s r .handle) .map

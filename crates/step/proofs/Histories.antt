@@ -3,25 +3,17 @@
 use mathlib.Core.Path.{_≡_, refl, sym, ap, _∙_}
 use mathlib.Core.List.{List, [], _∷_}
 use Prim.Native.Nat.{ℕ}
-use lib.Dec.{ltb}
 use lib.ListN.{length}
-use Rattle.completion.specs.declared.Completion.{Completion}
 use Rattle.completion.specs.declared.Reply.{Reply}
 use Rattle.model.specs.declared.Lengths.{Lengths}
 use Rattle.model.specs.declared.Row.{Row}
-use Rattle.model.specs.declared.Request.{Request}
 use Rattle.model.specs.declared.Call.{Call}
-use Rattle.model.specs.declared.Call.the-variants.{Write, ReadPage, Answer, Flushed, Take, SetGate, SetReadOnly, SetForced, ReportPoison}
-use Rattle.model.specs.declared.Verdict.{Verdict}
-use Rattle.model.specs.declared.Verdict.the-variants.{No as refuses, Accept}
-use Rattle.model.specs.State.{Region, State}
-use Rattle.step.specs.Questions.{regionAt}
-use Rattle.step.specs.Rules.{Input, Input.answered, Input.flushed, Fate, Fate.away, Fate.awaits, Fate.ends, Fate.rejected}
-use Rattle.step.specs.Step.{rowAt, accepted, submitted, writeVerdict, readVerdict, rowOf, names, going, freeing, settled, fateOf, underTag, taken}
-use Rattle.step.specs.Step.{withRegions, withPoison, marked, withGate, withReadOnly, withForced, called, eqLengths, step}
+use Rattle.model.specs.State.{State}
+use Rattle.step.specs.Rules.{Fate, Fate.away, Fate.awaits, Fate.ends, Fate.rejected}
+use Rattle.step.specs.Step.{rowAt, accepted, submitted, rowOf, going, freeing, settled, fateOf, taken, withRegions, withPoison, step}
 use Rattle.step.specs.Sound.{Sound}
 use Rattle.step.specs.Run.{Made, Made.calls, Made.looks, Event, leave, done, next, run, Pools}
-use Rattle.step.proofs.Picked.{by-pick}
+use Rattle.step.proofs.Calls.{by-step}
 use Rattle.step.proofs.Marked.{keeps-besides}
 
 pub leaves : (s : State) (pool : List ℕ) → Sound s → length pool ≡ length (s .pool) → Sound (leave s pool)
@@ -38,11 +30,6 @@ module _ (s : State) where
   stays : {x : Reply} → Stays s (s, x)
   stays = record { settings = refl; lengths = refl }
 
-  submitted-stays : (q : Request) (v : Verdict) → Stays s (submitted s q v)
-  unfolding submitted accepted
-  submitted-stays q (refuses f) = stays
-  submitted-stays q (Accept r k p) = record { settings = refl; lengths = refl }
-
   settled-stays : (t : ℕ) (r : Row) (f : Fate) → Stays s (settled s t r f)
   unfolding settled going freeing
   settled-stays t r (away f) = stays
@@ -50,34 +37,11 @@ module _ (s : State) where
   settled-stays t r (ends ending) = record { settings = refl; lengths = refl }
   settled-stays t r (rejected e b bytes) = record { settings = refl; lengths = refl }
 
-  under-stays : (t : ℕ) (i : Input) → Stays s (underTag s t i)
-  unfolding underTag
-  under-stays t i = by-pick (names (rowAt s (rowOf t)) t) (Stays s) (λ n. settled-stays t (rowAt s (rowOf t)) (fateOf s (rowAt s (rowOf t)) i)) (λ n. stays)
-
-  taken-stays : (l : List Completion) → Stays s (taken s l)
-  unfolding taken
-  taken-stays [] = stays
-  taken-stays (c ∷ more) = record { settings = refl; lengths = refl }
-
-  marked-stays : (h : ℕ) (g : Region) → Stays s (marked s h g)
-  unfolding marked withRegions
-  marked-stays h g = by-pick (ltb h (s .settings .regions)) (Stays s) (λ n. record { settings = refl; lengths = refl }) (λ n. stays)
-
-  called-stays : (c : Call) → Stays s (called s c)
-  unfolding called withPoison
-  called-stays (Write q) = submitted-stays q (writeVerdict s q)
-  called-stays (ReadPage q) = submitted-stays q (readVerdict s q)
-  called-stays (Answer t a back flushes) = under-stays t (answered a back flushes)
-  called-stays (Flushed t result) = under-stays t (flushed result)
-  called-stays Take = taken-stays (s .ready)
-  called-stays (SetGate h x) = marked-stays h (withGate (regionAt s h) x)
-  called-stays (SetReadOnly h x) = marked-stays h (withReadOnly (regionAt s h) x)
-  called-stays (SetForced h x) = marked-stays h (withForced (regionAt s h) x)
-  called-stays (ReportPoison cause) = record { settings = refl; lengths = refl }
-
   pub done-stays : (l : Lengths) (m : Made) → Stays s (done s l m)
-  unfolding done step
-  done-stays l (calls c) = by-pick (eqLengths l (s .lengths)) (Stays s) (λ same. called-stays c) (λ other. stays)
+  unfolding done submitted accepted taken withRegions withPoison
+  done-stays l (calls c) =
+      by-step s (Stays s) (λ x. stays) (λ q r k p. record { settings = refl; lengths = refl }) (λ t i. let r = rowAt s (rowOf t) in settled-stays t r (fateOf s r i))
+      (λ d more. record { settings = refl; lengths = refl }) (λ h g e. record { settings = refl; lengths = refl }) (λ cause. record { settings = refl; lengths = refl }) l c
   done-stays l (looks x) = stays
 
 -- ---- the events

@@ -29,8 +29,8 @@ use Rattle.model.specs.declared.Call.the-variants.{Write, ReadPage, Answer, Flu
 use Rattle.model.specs.declared.Lookup.{Lookup}
 use Rattle.model.specs.State.{Region, noRegion, State}
 use Rattle.model.specs.Opening.{opened}
-use Rattle.step.specs.Questions.{regionAt}
-use Rattle.step.specs.Rules.{pieceOf, Input.answered, Input.flushed, rangeStart, rangeEnd}
+use Rattle.step.specs.Questions.{byteAt, regionAt}
+use Rattle.step.specs.Rules.{leftOf, pieceOf, Input.answered, Input.flushed, rangeStart, rangeEnd}
 use Rattle.step.specs.Step.{startOf, endOf, begun, verdictOf, writeVerdict, readVerdict, submitted, planOf, withRegions, withPoison, marked, withGate, withReadOnly, withForced}
 use Rattle.step.specs.Step.{lookedUp, eqLengths, called, step, look}
 use Rattle.step.specs.Sound.{SplitFits, Sound}
@@ -82,18 +82,18 @@ keeps s l c i = by-pick (eqLengths l (s .lengths)) (λ (z : State × Reply). Sou
 
 -- ---- the pieces
 
-issued-from : (n : ℕ) (m : Map) (start : ℕ) (s : Split) → issuedUpTo n m start s ≡ map (onCard m) (piecesUpTo n m (start + s .done) (s .total - s .done))
+issued-from : (n : ℕ) (m : Map) (start : ℕ) (s : Split) → issuedUpTo n m start s ≡ map (onCard m) (piecesUpTo n m (byteAt start (s .done)) (leftOf s))
 unfolding issuedUpTo piecesUpTo pieceOf pick
 issued-from zero m start s = refl
-issued-from (suc n) m start s = by-left (s .total - s .done) refl (issued-from n m start (stepped m start s))
+issued-from (suc n) m start s = by-left (leftOf s) refl (issued-from n m start (stepped m start s))
   where
-    by-left : (left : ℕ) → s .total - s .done ≡ left → issuedUpTo n m start (stepped m start s) ≡ map (onCard m) (piecesUpTo n m (start + stepped m start s .done) (s .total - stepped m start s .done))
-        → issuedUpTo (suc n) m start s ≡ map (onCard m) (piecesUpTo (suc n) m (start + s .done) left)
+    by-left : (left : ℕ) → leftOf s ≡ left → issuedUpTo n m start (stepped m start s) ≡ map (onCard m) (piecesUpTo n m (start + stepped m start s .done) (s .total - stepped m start s .done))
+        → issuedUpTo (suc n) m start s ≡ map (onCard m) (piecesUpTo (suc n) m (byteAt start (s .done)) left)
     by-left zero e behind = rw (le-ltb (s .done) (s .total) (omega arith))
     by-left (suc left) e behind =
-        let count = pieceSize m (start + s .done) (s .total - s .done) in
-        let next : start + (s .done + count) ≡ start + s .done + count = omega arith in
-        let less : s .total - (s .done + count) ≡ s .total - s .done - count = omega arith in
+        let count = pieceSize m (byteAt start (s .done)) (leftOf s) in
+        let next : start + (s .done + count) ≡ byteAt start (s .done) + count = omega arith in
+        let less : s .total - (s .done + count) ≡ leftOf s - count = omega arith in
         rw (lt-ltb (s .done) (s .total) (omega arith), behind, next, less, e)
 
 another-length : (s : State) (l : Lengths) (c : Call) → eqLengths l (s .lengths) ≡ false → step s l c .1 ≡ turnedAway Unfit

@@ -1,5 +1,6 @@
 -- Proofs about the definitions of specs/.
 pub mod Picked
+pub mod Calls
 pub mod Places
 pub mod Counts
 pub mod Named

@@ -1,27 +1,20 @@
 -- What no call changes: beside the settings and the lengths (Histories) the regions, but for their marks.
 use mathlib.Core.Path.{_≡_, refl, sym, ap, _∙_}
-use mathlib.Core.List.{List, [], _∷_}
+use mathlib.Core.List.{List, []}
 use Prim.Native.Nat.{ℕ}
-use lib.Dec.{ltb}
 use lib.ListN.{getD, set, List·getD-map}
 use lib.Seq.{map-set-same}
 use Rattle.regionmap.specs.Words.{runsIn, mapIn}
-use Rattle.completion.specs.declared.Completion.{Completion}
 use Rattle.completion.specs.declared.Reply.{Reply}
 use Rattle.model.specs.declared.Lengths.{Lengths}
 use Rattle.model.specs.declared.Row.{Row}
-use Rattle.model.specs.declared.Request.{Request}
-use Rattle.model.specs.declared.Call.{Call}
-use Rattle.model.specs.declared.Call.the-variants.{Write, ReadPage, Answer, Flushed, Take, SetGate, SetReadOnly, SetForced, ReportPoison}
-use Rattle.model.specs.declared.Verdict.{Verdict}
-use Rattle.model.specs.declared.Verdict.the-variants.{No as refuses, Accept}
 use Rattle.model.specs.State.{Region, noRegion, State}
 use Rattle.model.specs.Opening.{Plan, atFirst, opened, planIn}
 use Rattle.step.specs.Questions.{regionAt}
-use Rattle.step.specs.Rules.{Input, Input.answered, Input.flushed, Fate, Fate.away, Fate.awaits, Fate.ends, Fate.rejected}
-use Rattle.step.specs.Step.{accepted, submitted, writeVerdict, readVerdict, rowAt, rowOf, names, going, freeing, planOf, settled, fateOf, underTag, taken, withRegions, withPoison, marked, withGate, withReadOnly, withForced, called, eqLengths, step}
+use Rattle.step.specs.Rules.{Fate, Fate.away, Fate.awaits, Fate.ends, Fate.rejected}
+use Rattle.step.specs.Step.{accepted, submitted, rowAt, rowOf, going, freeing, planOf, settled, fateOf, taken, withRegions, withPoison}
 use Rattle.step.specs.Run.{Made, Made.calls, Made.looks, Event, leave, done, next, Start, plansOf, openedBy}
-use Rattle.step.proofs.Picked.{by-pick}
+use Rattle.step.proofs.Calls.{by-step}
 use Rattle.step.proofs.Histories.{done-stays}
 
 -- the regions as the opening was given them
@@ -41,45 +34,17 @@ module _ (s : State) where
   settled-plans t row (ends ending) h = refl
   settled-plans t row (rejected e b bytes) h = refl
 
-  under-plans : (t : ℕ) (i : Input) → Same (underTag s t i)
-  unfolding underTag
-  under-plans t i = by-pick (names (rowAt s (rowOf t)) t) Same (λ n. settled-plans t (rowAt s (rowOf t)) (fateOf s (rowAt s (rowOf t)) i)) (λ n h. refl)
-
-  submitted-plans : (q : Request) (v : Verdict) → Same (submitted s q v)
-  unfolding submitted accepted regionAt
-  submitted-plans q (refuses f) h = refl
-  submitted-plans q (Accept r k p) h = refl
-
-  taken-plans : (l : List Completion) → Same (taken s l)
-  unfolding taken regionAt
-  taken-plans [] h = refl
-  taken-plans (c ∷ more) h = refl
-
 -- a region's marks are set
 pub plans-set : (l : List Region) (h : ℕ) (g : Region) → planOf g ≡ planOf (getD l h noRegion) → (k : ℕ) → planOf (getD (set l h g) k noRegion) ≡ planOf (getD l k noRegion)
 plans-set l h g e k =
     sym (List·getD-map planOf (set l h g) k noRegion) ∙ ap (λ (ps : List Plan). getD ps k (planOf noRegion)) (map-set-same planOf l h g noRegion e) ∙ List·getD-map planOf l k noRegion
 
 module _ (s : State) where
-  marked-plans : (h : ℕ) (g : Region) → planOf g ≡ planOf (regionAt s h) → Same s (marked s h g)
-  unfolding marked withRegions regionAt
-  marked-plans h g e = by-pick (ltb h (s .settings .regions)) (Same s) (λ known. plans-set (s .regions) h g e) (λ unknown k. refl)
-
-  called-plans : (c : Call) → Same s (called s c)
-  unfolding called withPoison withGate withReadOnly withForced planOf regionAt
-  called-plans (Write q) = submitted-plans s q (writeVerdict s q)
-  called-plans (ReadPage q) = submitted-plans s q (readVerdict s q)
-  called-plans (Answer t a back flushes) = under-plans s t (answered a back flushes)
-  called-plans (Flushed t result) = under-plans s t (flushed result)
-  called-plans Take = taken-plans s (s .ready)
-  called-plans (SetGate h x) = marked-plans h (withGate (regionAt s h) x) refl
-  called-plans (SetReadOnly h x) = marked-plans h (withReadOnly (regionAt s h) x) refl
-  called-plans (SetForced h x) = marked-plans h (withForced (regionAt s h) x) refl
-  called-plans (ReportPoison cause) = λ h. refl
-
   done-plans : (l : Lengths) (m : Made) → Same s (done s l m)
-  unfolding done step
-  done-plans l (calls c) = by-pick (eqLengths l (s .lengths)) (Same s) (λ same. called-plans c) (λ other h. refl)
+  unfolding done submitted accepted taken withRegions withPoison regionAt
+  done-plans l (calls c) =
+      by-step s (Same s) (λ x h. refl) (λ q r k p h. refl) (λ t i. let r = rowAt s (rowOf t) in settled-plans s t r (fateOf s r i))
+      (λ d more h. refl) (λ h g e. plans-set (s .regions) h g e) (λ cause h. refl) l c
   done-plans l (looks x) = λ h. refl
 
 pub next-plans : (s : State) (e : Event) → SamePlans s (next s e)

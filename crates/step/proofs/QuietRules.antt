@@ -26,7 +26,7 @@ use Rattle.model.specs.declared.Awaits.the-variants.{Nothing, Piece, Flush}
 use Rattle.model.specs.declared.Row.{Row}
 use Rattle.model.specs.State.{State}
 use Rattle.model.specs.Opening.{Plan}
-use Rattle.step.specs.Rules.{pieceOf, pieceLength, Input, Input.answered, Input.flushed, Fate, Fate.away, Fate.awaits, Fate.ends, Fate.rejected, isWritten, writtenAs, lastPiece, isRefusal, firstRefused, isWhole, goesOn, pieceAnswered, flushEnds, answerRules, flushRules, rules}
+use Rattle.step.specs.Rules.{leftOf, pieceOf, pieceLength, Input, Input.answered, Input.flushed, Fate, Fate.away, Fate.awaits, Fate.ends, Fate.rejected, isWritten, writtenAs, lastPiece, isRefusal, firstRefused, isWhole, goesOn, pieceAnswered, flushEnds, answerRules, flushRules, rules}
 use Rattle.step.specs.Sound.{SplitFits}
 use Rattle.step.specs.Lists.{planAt}
 use Rattle.step.specs.Demand3.{FairTo}
@@ -48,7 +48,7 @@ whole-count n (Error e media) w = absurd (not-both w refl)
 whole-count n Refused w = absurd (not-both w refl)
 whole-count n (RefusedWith e media) w = absurd (not-both w refl)
 
-pub piece-most : (g : Plan) (k : Kind) (s : Split) → pieceLength g k s ≤ s .total - s .done
+pub piece-most : (g : Plan) (k : Kind) (s : Split) → pieceLength g k s ≤ leftOf s
 unfolding pieceLength pieceOf pieceSize
 piece-most g k s = omega arith
 
@@ -61,7 +61,7 @@ module _ (o : Opening) (s : State) (forced : Bool) (first : Poisoned) (r : Row) 
   calm-written t b bytes′ = by-pick _ Calm (λ d. by-pick _ Calm (λ f. tt) (λ f. refl)) (λ d. refl)
 
   -- the end of a write's piece that is taken whole, with its buffer back
-  calm-end : (a b : Position) (sp : Split) (n flushes : ℕ) → n ≤ sp .total - sp .done → sp .done < sp .total → goesOn n sp (Count n) true ≡ false
+  calm-end : (a b : Position) (sp : Split) (n flushes : ℕ) → n ≤ leftOf sp → sp .done < sp .total → goesOn n sp (Count n) true ≡ false
       → Calm (lastPiece o g forced first r (Page a b) sp bytes (Count n) true flushes)
   unfolding lastPiece Calm goesOn isWhole isWritten
   calm-end a b sp n flushes most left e =

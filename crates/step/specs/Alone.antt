@@ -2,7 +2,7 @@
 -- under its queue tag. With each go the bytes left in a read's piece, the flush count, the forced mark last set and the first cause so far: that of a
 -- report, or of a write that, run alone, was ended DurabilityUnknown by a piece's answer and not by a flush result. Those that get 13 to 16 change
 -- nothing." Nothing is read off the table but an acceptance: its reply with the queue tag. 13 follows from the lengths lent, 14 from what was
--- accepted under the tag, and 15 and 16 are judged here, by the rules.
+-- accepted under the tag, and 15 and 16 are judged here, by the rules (D-27).
 use mathlib.Core.Bool.{Bool, false}
 use mathlib.Core.Option.{Option, none, some}
 use mathlib.Core.List.{List, [], _∷_, _++_}
@@ -11,19 +11,13 @@ use lib.ListN.{length, take, drop, getD}
 use lib.Dec.{eqb, ltb}
 use Rattle.layout.specs.Pick.{pick}
 use Rattle.iobuf.specs.Turn.{stretch}
-use Rattle.domain.specs.declared.FirstCause.{FirstCause}
-use Rattle.domain.specs.declared.Poisoned.{Poisoned}
+use Rattle.domain.specs.declared.{FirstCause.FirstCause, Poisoned.Poisoned}
 use Rattle.domain.specs.declared.Poisoned.the-variants as Poisoned
 use Rattle.domain.specs.Domain.{firstKept}
 use Rattle.completion.specs.declared.Reply.{Reply}
 use Rattle.completion.specs.declared.Reply.the-variants as Reply
-use Rattle.model.specs.declared.Opening.{Opening}
-use Rattle.model.specs.declared.Lengths.{Lengths}
-use Rattle.model.specs.declared.Kind.{Kind}
+use Rattle.model.specs.declared.{Opening.Opening, Lengths.Lengths, Kind.Kind, Row.Row, Request.Request, Call.Call}
 use Rattle.model.specs.declared.Kind.the-variants as Kind
-use Rattle.model.specs.declared.Row.{Row}
-use Rattle.model.specs.declared.Request.{Request}
-use Rattle.model.specs.declared.Call.{Call}
 use Rattle.model.specs.declared.Call.the-variants as Call
 use Rattle.model.specs.State.{State}
 use Rattle.model.specs.Opening.{Plan, planIn}

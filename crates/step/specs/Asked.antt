@@ -7,22 +7,15 @@ use mathlib.Core.List.{List, [], _∷_}
 use Prim.Native.Nat.{ℕ}
 use lib.Dec.{ltb}
 use Rattle.domain.specs.declared.FirstCause.{FirstCause}
-use Rattle.platform.specs.declared.Answer.{Answer}
-use Rattle.platform.specs.declared.Flushed.{Flushed}
+use Rattle.platform.specs.declared.{Answer.Answer, Flushed.Flushed}
 use Rattle.completion.specs.declared.Context.the-variants as Context
-use Rattle.completion.specs.declared.Refusal.{Refusal}
+use Rattle.completion.specs.declared.{Refusal.Refusal, Reply.Reply}
 use Rattle.completion.specs.declared.Refusal.the-variants as Refusal
-use Rattle.completion.specs.declared.Reply.{Reply}
 use Rattle.completion.specs.declared.Reply.the-variants as Reply
-use Rattle.model.specs.declared.Lengths.{Lengths}
-use Rattle.model.specs.declared.Kind.{Kind}
+use Rattle.model.specs.declared.{Lengths.Lengths, Kind.Kind, Awaits.Awaits, Request.Request, Call.Call, Asked.Asked}
 use Rattle.model.specs.declared.Kind.the-variants as Kind
-use Rattle.model.specs.declared.Awaits.{Awaits}
 use Rattle.model.specs.declared.Awaits.the-variants as Awaits
-use Rattle.model.specs.declared.Request.{Request}
-use Rattle.model.specs.declared.Call.{Call}
 use Rattle.model.specs.declared.Call.the-variants as Call
-use Rattle.model.specs.declared.Asked.{Asked}
 use Rattle.model.specs.declared.Asked.the-variants as Asked
 use Rattle.model.specs.State.{State}
 use Rattle.model.specs.Opening.{Plan}

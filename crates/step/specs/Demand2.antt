@@ -17,21 +17,13 @@ use Rattle.posix.specs.Posix.{Card, pread}
 use Rattle.posix.specs.Transfer.{gathered}
 use Rattle.domain.specs.declared.Poisoned.{Poisoned}
 use Rattle.platform.specs.declared.Flushed.{Flushed}
-use Rattle.completion.specs.declared.WriteTicket.{WriteTicket}
-use Rattle.completion.specs.declared.Outcome.{Outcome}
+use Rattle.completion.specs.declared.{WriteTicket.WriteTicket, Outcome.Outcome, Completion.Completion, Reply.Reply}
 use Rattle.completion.specs.declared.Outcome.the-variants as Outcome
 use Rattle.completion.specs.declared.Buffer.the-variants as Buffer
-use Rattle.completion.specs.declared.Completion.{Completion}
-use Rattle.completion.specs.declared.Reply.{Reply}
 use Rattle.completion.specs.declared.Reply.the-variants as Reply
-use Rattle.model.specs.declared.Opening.{Opening}
-use Rattle.model.specs.declared.Kind.{Kind}
+use Rattle.model.specs.declared.{Opening.Opening, Kind.Kind, Split.Split, Awaits.Awaits, Row.Row, Request.Request}
 use Rattle.model.specs.declared.Kind.the-variants as Kind
-use Rattle.model.specs.declared.Split.{Split}
-use Rattle.model.specs.declared.Awaits.{Awaits}
 use Rattle.model.specs.declared.Awaits.the-variants as Awaits
-use Rattle.model.specs.declared.Row.{Row}
-use Rattle.model.specs.declared.Request.{Request}
 use Rattle.model.specs.declared.Call.the-variants as Call
 use Rattle.model.specs.State.{State}
 use Rattle.model.specs.Opening.{Plan}

@@ -16,10 +16,8 @@ use lib.ListN.{length, take, drop}
 use Rattle.regionmap.specs.Map.{place}
 use Rattle.posix.specs.Posix.{Card}
 use Rattle.model.specs.declared.Kind.the-variants as Kind
-use Rattle.model.specs.declared.Awaits.{Awaits}
+use Rattle.model.specs.declared.{Awaits.Awaits, Row.Row, Call.Call}
 use Rattle.model.specs.declared.Awaits.the-variants as Awaits
-use Rattle.model.specs.declared.Row.{Row}
-use Rattle.model.specs.declared.Call.{Call}
 use Rattle.model.specs.declared.Call.the-variants as Call
 use Rattle.model.specs.State.{State, liveRows}
 use Rattle.step.specs.Questions.{regionAt, byteAt}

@@ -15,21 +15,13 @@ use Rattle.domain.specs.declared.OsError.the-variants as OsError
 use Rattle.domain.specs.declared.FirstCause.{FirstCause}
 use Rattle.platform.specs.declared.Answer.the-variants as Answer
 use Rattle.platform.specs.declared.Flushed.the-variants as Flushed
-use Rattle.completion.specs.declared.WriteTicket.{WriteTicket}
-use Rattle.completion.specs.declared.Range.{Range}
-use Rattle.completion.specs.declared.Outcome.{Outcome}
+use Rattle.completion.specs.declared.{WriteTicket.WriteTicket, Range.Range, Outcome.Outcome, Completion.Completion, Refusal.Refusal, Reply.Reply}
 use Rattle.completion.specs.declared.Outcome.the-variants as Outcome
 use Rattle.completion.specs.declared.Buffer.the-variants as Buffer
-use Rattle.completion.specs.declared.Completion.{Completion}
-use Rattle.completion.specs.declared.Refusal.{Refusal}
 use Rattle.completion.specs.declared.Refusal.the-variants as Refusal
-use Rattle.completion.specs.declared.Reply.{Reply}
 use Rattle.completion.specs.declared.Reply.the-variants as Reply
 use Rattle.completion.specs.Numbers.{number, Values, Values.nothing, Values.range, values}
-use Rattle.model.specs.declared.Opening.{Opening}
-use Rattle.model.specs.declared.Lengths.{Lengths}
-use Rattle.model.specs.declared.Request.{Request}
-use Rattle.model.specs.declared.Call.{Call}
+use Rattle.model.specs.declared.{Opening.Opening, Lengths.Lengths, Request.Request, Call.Call}
 use Rattle.model.specs.declared.Call.the-variants as Call
 use Rattle.model.specs.State.{State}
 use Rattle.model.specs.Opening.{opened, plansIn, opens}
@@ -38,23 +30,27 @@ use Rattle.step.specs.Step.{step, begun, rowAt, queueTag}
 use Rattle.step.specs.Laws.{issuedUpTo}
 use Rattle.step.specs.Lists.{viewOf}
 
-unfoldable pub figuresOpening : Opening
-figuresOpening =
+-- the figures' volume, block and card with one region, at a depth, a lifetime, so many buffers of a capacity, and a flush policy
+abbrev pub openingWith : ℕ → ℕ → ℕ → ℕ → Bool → Opening
+openingWith depth lifetime buffers capacity flush =
     record {
       block = 512;
-      depth = 2;
-      lifetime = 1000;
+      depth = depth;
+      lifetime = lifetime;
       card = 16384;
-      buffers = 3;
-      capacity = 2048;
+      buffers = buffers;
+      capacity = capacity;
       «read_only» = false;
-      flush = false;
+      flush = flush;
       volume = 1;
       class = 0;
       label = 0;
       epoch = 0;
       regions = 1;
     }
+
+unfoldable pub figuresOpening : Opening
+figuresOpening = openingWith 2 1000 3 2048 false
 
 -- the one region in the words of a plan: id, generation, first offset, capacity, data length, one further run
 unfoldable pub figuresPlan : List ℕ
@@ -130,22 +126,7 @@ byWrite = record { op = Op.Write; raw = OsError.None }
 
 -- the same opening with the longest lifetime: "1 to 2^62 submissions."
 unfoldable pub longOpening : Opening
-longOpening =
-    record {
-      block = 512;
-      depth = 2;
-      lifetime = 2 ^ 62;
-      card = 16384;
-      buffers = 3;
-      capacity = 2048;
-      «read_only» = false;
-      flush = false;
-      volume = 1;
-      class = 0;
-      label = 0;
-      epoch = 0;
-      regions = 1;
-    }
+longOpening = openingWith 2 (2 ^ 62) 3 2048 false
 
 unfoldable pub longTable : State
 longTable = opened longOpening (plansIn 1 figuresPlan) figuresLengths (replicate 6144 0)

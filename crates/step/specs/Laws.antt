@@ -9,8 +9,7 @@ use lib.ListN.{length}
 use lib.Dec.{ltb}
 use Rattle.layout.specs.Pick.{pick}
 use Rattle.regionmap.specs.declared.FoundPiece.{FoundPiece}
-use Rattle.regionmap.specs.Map.{Map, place, pieces}
-use Rattle.regionmap.specs.Map.{Piece as MapPiece}
+use Rattle.regionmap.specs.Map.{Map, place, pieces, Piece as MapPiece}
 use Rattle.regionmap.specs.Words.{offsetOf}
 use Rattle.posix.specs.Transfer.{CardAndPool, Operation, wrote, readIn, whole, OneWrite, OneRead}
 use Rattle.domain.specs.declared.FirstCause.{FirstCause}
@@ -19,13 +18,7 @@ use Rattle.completion.specs.declared.Refusal.{Refusal}
 use Rattle.completion.specs.declared.Refusal.the-variants as Refusal
 use Rattle.completion.specs.declared.Reply.the-variants as Reply
 use Rattle.completion.specs.Numbers.{number}
-use Rattle.model.specs.declared.Opening.{Opening}
-use Rattle.model.specs.declared.Lengths.{Lengths}
-use Rattle.model.specs.declared.Split.{Split}
-use Rattle.model.specs.declared.Request.{Request}
-use Rattle.model.specs.declared.Call.{Call}
-use Rattle.model.specs.declared.Lookup.{Lookup}
-use Rattle.model.specs.declared.Asked.{Asked}
+use Rattle.model.specs.declared.{Opening.Opening, Lengths.Lengths, Split.Split, Request.Request, Call.Call, Lookup.Lookup, Asked.Asked}
 use Rattle.model.specs.declared.Asked.the-variants as Asked
 use Rattle.model.specs.State.{State, Region}
 use Rattle.model.specs.Opening.{among, opened, plansIn, opens}

@@ -12,15 +12,11 @@ use Rattle.layout.specs.Pick.{pick}
 use Rattle.regionmap.specs.Map.{place}
 use Rattle.iobuf.specs.Turn.{stretch}
 use Rattle.posix.specs.Posix.{Card, pwrite}
-use Rattle.completion.specs.declared.Completion.{Completion}
-use Rattle.completion.specs.declared.Refusal.{Refusal}
-use Rattle.completion.specs.declared.Reply.{Reply}
+use Rattle.completion.specs.declared.{Completion.Completion, Refusal.Refusal, Reply.Reply}
 use Rattle.completion.specs.declared.Reply.the-variants as Reply
 use Rattle.model.specs.declared.Kind.the-variants as Kind
-use Rattle.model.specs.declared.Awaits.{Awaits}
+use Rattle.model.specs.declared.{Awaits.Awaits, Row.Row, Call.Call}
 use Rattle.model.specs.declared.Awaits.the-variants as Awaits
-use Rattle.model.specs.declared.Row.{Row}
-use Rattle.model.specs.declared.Call.{Call}
 use Rattle.model.specs.declared.Call.the-variants as Call
 use Rattle.model.specs.State.{State}
 use Rattle.model.specs.Opening.{Plan}

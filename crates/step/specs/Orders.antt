@@ -9,34 +9,16 @@ use Prim.Native.Nat.{ℕ}
 use lib.ListN.{length, replicate}
 use Rattle.regionmap.specs.Words.{positionOf}
 use Rattle.posix.specs.Posix.{Card}
-use Rattle.model.specs.declared.Opening.{Opening}
-use Rattle.model.specs.declared.Lengths.{Lengths}
-use Rattle.model.specs.declared.Request.{Request}
-use Rattle.model.specs.declared.Call.{Call}
+use Rattle.model.specs.declared.{Opening.Opening, Lengths.Lengths, Request.Request, Call.Call}
 use Rattle.model.specs.declared.Call.the-variants as Call
 use Rattle.model.specs.State.{State}
 use Rattle.model.specs.Opening.{opens}
 use Rattle.step.specs.Run.{Made.calls, Event, next, Start, openedBy, after}
 use Rattle.step.specs.Demand3.{Agreed}
-use Rattle.step.specs.Figures.{figuresPlan, asking, answers}
+use Rattle.step.specs.Figures.{openingWith, figuresPlan, asking, answers}
 
 unfoldable pub opening : Opening
-opening =
-    record {
-      block = 512;
-      depth = 2;
-      lifetime = 1000;
-      card = 16384;
-      buffers = 2;
-      capacity = 1024;
-      «read_only» = false;
-      flush = false;
-      volume = 1;
-      class = 0;
-      label = 0;
-      epoch = 0;
-      regions = 1;
-    }
+opening = openingWith 2 1000 2 1024 false
 
 unfoldable pub lengths : Lengths
 lengths = record { rows = 2; store = 118; free = 2; ready = 33; owners = 2; pool = 2048 }

@@ -11,19 +11,12 @@ use Rattle.regionmap.specs.declared.Position.{Position}
 use Rattle.domain.specs.declared.FirstCause.{FirstCause}
 use Rattle.domain.specs.declared.Poisoned.the-variants as Poisoned
 use Rattle.platform.specs.declared.Answer.{Answer as CardAnswer}
-use Rattle.completion.specs.declared.Buffer.{Buffer}
+use Rattle.completion.specs.declared.{Buffer.Buffer, Completion.Completion, Reply.Reply}
 use Rattle.completion.specs.declared.Buffer.the-variants as Buffer
-use Rattle.completion.specs.declared.Completion.{Completion}
-use Rattle.completion.specs.declared.Reply.{Reply}
 use Rattle.completion.specs.declared.Reply.the-variants as Reply
-use Rattle.model.specs.declared.Lengths.{Lengths}
-use Rattle.model.specs.declared.Gate.{Gate}
-use Rattle.model.specs.declared.Kind.{Kind}
+use Rattle.model.specs.declared.{Lengths.Lengths, Gate.Gate, Kind.Kind, Split.Split, Request.Request, Call.Call}
 use Rattle.model.specs.declared.Kind.the-variants as Kind
-use Rattle.model.specs.declared.Split.{Split}
 use Rattle.model.specs.declared.Awaits.the-variants as Awaits
-use Rattle.model.specs.declared.Request.{Request}
-use Rattle.model.specs.declared.Call.{Call}
 use Rattle.model.specs.declared.Call.the-variants as Call
 use Rattle.model.specs.declared.Lookup.the-variants as Lookup
 use Rattle.model.specs.State.{Owner.host, Owner.lost, State, freed}

@@ -1,5 +1,5 @@
 -- Document 01, "A submission, question by question": each question once, in the write's order and with its sentence, then the write's list and the
--- read's. The first question that fails decides.
+-- read's. The first question that fails decides. What a question looks at is its argument (D-18).
 use mathlib.Core.Bool.{Bool, true, false, not, _&&_}
 use mathlib.Core.List.{List, [], _∷_}
 use Prim.Native.Nat.{ℕ, _+_, _-_, _^_, min}
@@ -10,15 +10,11 @@ use Rattle.regionmap.specs.declared.Position.{Position}
 use Rattle.regionmap.specs.Words.{positionOf}
 use Rattle.domain.specs.declared.Poisoned.{Poisoned}
 use Rattle.domain.specs.declared.Poisoned.the-variants as Poisoned
-use Rattle.completion.specs.declared.Context.{Context}
+use Rattle.completion.specs.declared.{Context.Context, Refusal.Refusal}
 use Rattle.completion.specs.declared.Context.the-variants as Context
-use Rattle.completion.specs.declared.Refusal.{Refusal}
 use Rattle.completion.specs.declared.Refusal.the-variants as Refusal
-use Rattle.model.specs.declared.Counts.{Counts}
-use Rattle.model.specs.declared.Gate.{Gate}
+use Rattle.model.specs.declared.{Counts.Counts, Gate.Gate, Request.Request, Asked.Asked}
 use Rattle.model.specs.declared.Gate.the-variants as Gate
-use Rattle.model.specs.declared.Request.{Request}
-use Rattle.model.specs.declared.Asked.{Asked}
 use Rattle.model.specs.declared.Asked.the-variants as Asked
 use Rattle.model.specs.State.{Region, noRegion, Owner, Owner.host, Owner.table, Owner.lost, State}
 

@@ -1,43 +1,30 @@
 -- Document 01, "An answer arrives": the rules of one operation, written once, for the table and for an operation alone. An operation is what its row
--- says and the bytes of its buffer; it is fed a piece's answer or a flush result, and the rules say what becomes of it.
+-- says and the bytes of its buffer; it is fed a piece's answer or a flush result, and the rules say what becomes of it (D-26).
 use mathlib.Core.Bool.{Bool, true, false, _&&_, _||_}
 use mathlib.Core.List.{List}
 use mathlib.Core.Option.{Option, none, some}
 use Prim.Native.Nat.{ℕ, _+_, _-_, _^_}
 use lib.Dec.{ltb, eqb}
 use Rattle.layout.specs.Pick.{pick}
-use Rattle.regionmap.specs.declared.FoundPiece.{FoundPiece}
-use Rattle.regionmap.specs.declared.Position.{Position}
+use Rattle.regionmap.specs.declared.{FoundPiece.FoundPiece, Position.Position}
 use Rattle.regionmap.specs.Map.{Map, place, pieceSize}
 use Rattle.regionmap.specs.Words.{offsetOf}
 use Rattle.iobuf.specs.Turn.{turned}
-use Rattle.domain.specs.declared.Op.{Op}
+use Rattle.domain.specs.declared.{Op.Op, OsError.OsError, FirstCause.FirstCause, Poisoned.Poisoned}
 use Rattle.domain.specs.declared.Op.the-variants as Op
-use Rattle.domain.specs.declared.OsError.{OsError}
 use Rattle.domain.specs.declared.OsError.the-variants as OsError
-use Rattle.domain.specs.declared.FirstCause.{FirstCause}
-use Rattle.domain.specs.declared.Poisoned.{Poisoned}
 use Rattle.domain.specs.declared.Poisoned.the-variants as Poisoned
 use Rattle.domain.specs.Domain.{needAfter}
-use Rattle.platform.specs.declared.Answer.{Answer}
+use Rattle.platform.specs.declared.{Answer.Answer, Flushed.Flushed}
 use Rattle.platform.specs.declared.Answer.the-variants as Answer
-use Rattle.platform.specs.declared.Flushed.{Flushed}
 use Rattle.platform.specs.declared.Flushed.the-variants as Flushed
-use Rattle.completion.specs.declared.WriteTicket.{WriteTicket}
-use Rattle.completion.specs.declared.Range.{Range}
-use Rattle.completion.specs.declared.Outcome.{Outcome}
+use Rattle.completion.specs.declared.{WriteTicket.WriteTicket, Range.Range, Outcome.Outcome, Buffer.Buffer, Refusal.Refusal}
 use Rattle.completion.specs.declared.Outcome.the-variants as Outcome
-use Rattle.completion.specs.declared.Buffer.{Buffer}
 use Rattle.completion.specs.declared.Buffer.the-variants as Buffer
-use Rattle.completion.specs.declared.Refusal.{Refusal}
 use Rattle.completion.specs.declared.Refusal.the-variants as Refusal
-use Rattle.model.specs.declared.Opening.{Opening}
-use Rattle.model.specs.declared.Kind.{Kind}
+use Rattle.model.specs.declared.{Opening.Opening, Kind.Kind, Split.Split, Awaits.Awaits, Row.Row}
 use Rattle.model.specs.declared.Kind.the-variants as Kind
-use Rattle.model.specs.declared.Split.{Split}
-use Rattle.model.specs.declared.Awaits.{Awaits}
 use Rattle.model.specs.declared.Awaits.the-variants as Awaits
-use Rattle.model.specs.declared.Row.{Row}
 use Rattle.model.specs.Opening.{Plan}
 use Rattle.model.specs.State.{receiptFor}
 use Rattle.step.specs.Questions.{byteAt}

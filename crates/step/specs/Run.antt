@@ -6,10 +6,7 @@ use mathlib.Core.List.{List, [], _∷_}
 use Prim.Native.Nat.{ℕ}
 use lib.ListN.{length}
 use Rattle.completion.specs.declared.Reply.{Reply}
-use Rattle.model.specs.declared.Opening.{Opening}
-use Rattle.model.specs.declared.Lengths.{Lengths}
-use Rattle.model.specs.declared.Call.{Call}
-use Rattle.model.specs.declared.Lookup.{Lookup}
+use Rattle.model.specs.declared.{Opening.Opening, Lengths.Lengths, Call.Call, Lookup.Lookup}
 use Rattle.model.specs.State.{State, poolAs}
 use Rattle.model.specs.Opening.{Plan, plansIn, opens, opened}
 use Rattle.step.specs.Step.{step, look}

@@ -1,4 +1,4 @@
--- What holds of every table that calls after an opening have left. Stated once; kept by every call (Laws).
+-- What holds of every table that calls after an opening have left. Stated once; kept by every call (Laws). Values are promised of such tables (D-17).
 use mathlib.Core.Path.{_≡_}
 use mathlib.Core.List.{List, [], _∷_}
 use Prim.Native.Nat.{ℕ, _+_, _*_, _≤_, _<_, _^_}
@@ -7,14 +7,11 @@ use lib.Dec.{eqb}
 use Rattle.layout.specs.Pick.{pick}
 use Rattle.regionmap.specs.Map.{place}
 use Rattle.regionmap.specs.Laws.{Lawful}
-use Rattle.completion.specs.declared.Buffer.{Buffer}
+use Rattle.completion.specs.declared.{Buffer.Buffer, Completion.Completion}
 use Rattle.completion.specs.declared.Buffer.the-variants as Buffer
-use Rattle.completion.specs.declared.Completion.{Completion}
-use Rattle.model.specs.declared.Opening.{Opening}
+use Rattle.model.specs.declared.{Opening.Opening, Awaits.Awaits, Row.Row}
 use Rattle.model.specs.declared.Kind.the-variants as Kind
-use Rattle.model.specs.declared.Awaits.{Awaits}
 use Rattle.model.specs.declared.Awaits.the-variants as Awaits
-use Rattle.model.specs.declared.Row.{Row}
 use Rattle.model.specs.State.{Region, Owner, Owner.host, Owner.table, Owner.lost, State, awaiting, liveRows}
 use Rattle.model.specs.Meaning.{Numbers, Room}
 use Rattle.step.specs.Questions.{regionAt}

@@ -9,43 +9,27 @@ use Rattle.layout.specs.Pick.{pick}
 use Rattle.regionmap.specs.declared.Position.{Position}
 use Rattle.regionmap.specs.Words.{positionOf}
 use Rattle.iobuf.specs.Turn.{stretch, withStretch}
-use Rattle.domain.specs.declared.OsError.{OsError}
-use Rattle.domain.specs.declared.FirstCause.{FirstCause}
-use Rattle.domain.specs.declared.Poisoned.{Poisoned}
+use Rattle.domain.specs.declared.{OsError.OsError, FirstCause.FirstCause, Poisoned.Poisoned}
 use Rattle.domain.specs.Domain.{firstKept}
 use Rattle.completion.specs.declared.Context.the-variants as Context
 use Rattle.completion.specs.declared.Refusal.the-variants as Refusal
-use Rattle.completion.specs.declared.Outcome.{Outcome}
-use Rattle.completion.specs.declared.Buffer.{Buffer}
+use Rattle.completion.specs.declared.{Outcome.Outcome, Buffer.Buffer, Completion.Completion, Reply.Reply}
 use Rattle.completion.specs.declared.Buffer.the-variants as Buffer
-use Rattle.completion.specs.declared.Completion.{Completion}
-use Rattle.completion.specs.declared.Reply.{Reply}
 use Rattle.completion.specs.declared.Reply.the-variants as Reply
-use Rattle.model.specs.declared.Lengths.{Lengths}
-use Rattle.model.specs.declared.Counts.{Counts}
-use Rattle.model.specs.declared.Kind.{Kind}
+use Rattle.model.specs.declared.{Lengths.Lengths, Counts.Counts, Kind.Kind, Split.Split, Gate.Gate, Awaits.Awaits, Row.Row, Request.Request}
 use Rattle.model.specs.declared.Kind.the-variants as Kind
-use Rattle.model.specs.declared.Split.{Split}
-use Rattle.model.specs.declared.Gate.{Gate}
-use Rattle.model.specs.declared.Awaits.{Awaits}
 use Rattle.model.specs.declared.Awaits.the-variants as Awaits
-use Rattle.model.specs.declared.Row.{Row}
-use Rattle.model.specs.declared.Request.{Request}
-use Rattle.model.specs.declared.Call.{Call}
+use Rattle.model.specs.declared.{Call.Call, Lookup.Lookup, Asked.Asked, Verdict.Verdict}
 use Rattle.model.specs.declared.Call.the-variants as Call
-use Rattle.model.specs.declared.Lookup.{Lookup}
 use Rattle.model.specs.declared.Lookup.the-variants as Lookup
-use Rattle.model.specs.declared.Asked.{Asked}
 use Rattle.model.specs.declared.Asked.the-variants as Asked
-use Rattle.model.specs.declared.Verdict.{Verdict}
 use Rattle.model.specs.declared.Verdict.the-variants as Verdict
 use Rattle.model.specs.State.{Region, Owner, Owner.host, Owner.table, Owner.lost, State, regionsAs, poisonAs, countsAs, rowsAs, freeAs, readyAs}
 use Rattle.model.specs.State.{ownersAs, poolAs, freed, liveRows}
 use Rattle.model.specs.Opening.{Plan}
 use Rattle.step.specs.Questions.{regionAt, firstNo, writeQuestions, readQuestions, endAt, wholeOf}
 use Rattle.step.specs.Rules.{firstOf, rangeOf, opOf, pieceOf, pieceLength, Input, Input.answered, Input.flushed, End, Fate, Fate.away}
-use Rattle.step.specs.Rules.{Fate.awaits}
-use Rattle.step.specs.Rules.{Fate.ends, Fate.rejected, rules}
+use Rattle.step.specs.Rules.{Fate.awaits, Fate.ends, Fate.rejected, rules}
 
 -- ---- an operation and its pieces
 

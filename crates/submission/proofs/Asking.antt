@@ -101,48 +101,48 @@ read-groups o n g held q = ap (λ (a : Asked). firstNo (firstNo names ∷ a ∷ 
 
 -- ---- what the code read
 
--- what is said of the numbers as read holds of those in the words
-pub read-off : {o p : Opening} → o ≡ p → (P : Opening → Type 0) → P o → P p
-read-off e P x = subst P e x
-
 -- a handle past the regions
-pub foreign : (s : State) (n : Counts) (store owners : List ℕ) (q : Request) (more : List Asked) → Reads s n store owners → settingsIn store .regions ≤ q .handle
+pub foreign : (s : State) (n : Counts) (store owners : List ℕ) (q : Request) (more : List Asked) → Reads s n store owners → (o : Opening) → o ≡ settingsIn store → o .regions ≤ q .handle
     → No (ForeignPosition bare) ≡ firstNo (handleNamesRegion (s .settings .regions) q ∷ more)
 unfolding handleNamesRegion ask firstNo
-foreign s n store owners q more r past =
-    sym (ap (λ (t : Bool). firstNo (ask t (ForeignPosition bare) ∷ more)) (ap (λ (o : Opening). ltb (q .handle) (o .regions)) (r .settings) ∙ le-ltb (q .handle) (settingsIn store .regions) past))
+foreign s n store owners q more r o e past =
+    sym (ap (λ (t : Bool). firstNo (ask t (ForeignPosition bare) ∷ more)) (ap (λ (p : Opening). ltb (q .handle) (p .regions)) (r .settings ∙ sym e) ∙ le-ltb (q .handle) (o .regions) past))
 
--- the region and whether the host holds the buffer, as the code found them
-pub record Found (store owners : List ℕ) (q : Request) (g : LiveRegion) (held : Bool) : Type 0 where
-  pub below : q .handle < settingsIn store .regions
+-- the numbers, the region and whether the host holds the buffer, as the code found them
+pub record Found (store owners : List ℕ) (q : Request) (o : Opening) (g : LiveRegion) (held : Bool) : Type 0 where
+  pub settings : o ≡ settingsIn store
+  pub below : q .handle < o .regions
   pub region : InStore store (q .handle) → g ≡ liveOf (regionOf store (q .handle))
-  pub holder : held ≡ isHost (getD (map ownerIn (take (settingsIn store .buffers) owners)) (q .buffer) lost)
+  pub holder : held ≡ isHost (getD (map ownerIn (take (o .buffers) owners)) (q .buffer) lost)
 
-module _ (s : State) (n : Counts) (store owners : List ℕ) (q : Request) (r : Reads s n store owners) (g : LiveRegion) (held : Bool) (f : Found store owners q g held) where
+module _ (s : State) (n : Counts) (store owners : List ℕ) (q : Request) (r : Reads s n store owners) (o : Opening) (g : LiveRegion) (held : Bool) (f : Found store owners q o g held) where
   -- the region in the state
   abbrev G : Region
   G = regionAt s (q .handle)
 
+  below : q .handle < settingsIn store .regions
+  below = subst (λ (p : Opening). q .handle < p .regions) (f .settings) (f .below)
+
   is-live : g ≡ liveOf G
-  is-live = f .region (r .in-store (q .handle) (f .below)) ∙ ap liveOf (sym (r .regions (q .handle) (f .below)))
+  is-live = f .region (r .in-store (q .handle) below) ∙ ap liveOf (sym (r .regions (q .handle) below))
 
   is-held : held ≡ heldAt s (q .buffer)
   unfolding heldAt
-  is-held = f .holder ∙ ap (λ os. isHost (getD os (q .buffer) lost)) (sym (r .owners-are))
+  is-held = f .holder ∙ ap (λ (p : Opening). isHost (getD (map ownerIn (take (p .buffers) owners)) (q .buffer) lost)) (f .settings) ∙ ap (λ os. isHost (getD os (q .buffer) lost)) (sym (r .owners-are))
 
-  is-settings : settingsIn store ≡ s .settings
-  is-settings = sym (r .settings)
+  is-settings : o ≡ s .settings
+  is-settings = f .settings ∙ sym (r .settings)
 
   named : (more : List Asked) → firstNo more ≡ firstNo (handleNamesRegion (s .settings .regions) q ∷ more)
   unfolding handleNamesRegion ask firstNo
   named more =
-      sym (ap (λ (t : Bool). firstNo (ask t (ForeignPosition bare) ∷ more)) (ap (λ (o : Opening). ltb (q .handle) (o .regions)) (r .settings) ∙ lt-ltb (q .handle) (settingsIn store .regions) (f .below)))
+      sym (ap (λ (t : Bool). firstNo (ask t (ForeignPosition bare) ∷ more)) (ap (λ (p : Opening). ltb (q .handle) (p .regions)) (sym is-settings) ∙ lt-ltb (q .handle) (o .regions) (f .below)))
 
   -- the lists of what the code read are those of the state
-  pub write-asked : (p : Poisoned) → p ≡ poisonIn store → firstNo (writeList (settingsIn store) n g p held q) ≡ firstNo (writeQuestions s G q)
+  pub write-asked : (p : Poisoned) → p ≡ poisonIn store → firstNo (writeList o n g p held q) ≡ firstNo (writeQuestions s G q)
   unfolding writeQuestions writeList liveOf
   write-asked p e = (λ i. firstNo (writeList (is-settings i) (sym (r .counts) i) (is-live i) ((e ∙ sym (r .poison)) i) (is-held i) q)) ∙ named _
 
-  pub read-asked : firstNo (readList (settingsIn store) n g held q) ≡ firstNo (readQuestions s G q)
+  pub read-asked : firstNo (readList o n g held q) ≡ firstNo (readQuestions s G q)
   unfolding readQuestions readList liveOf
   read-asked = (λ i. firstNo (readList (is-settings i) (sym (r .counts) i) (is-live i) (is-held i) q)) ∙ named _

@@ -11,7 +11,8 @@ use lib.Seq.{getD-take, getD-drop}
 use Rattle.regionmap.specs.declared.Position.{Position}
 use Rattle.regionmap.specs.declared.FoundPiece.{FoundPiece}
 use Rattle.regionmap.specs.Map.{place, pieceSize}
-use Rattle.regionmap.specs.Words.{positionOf, offsetOf, wrap64}
+use Rattle.regionmap.specs.Words.{positionOf, offsetOf}
+use Rattle.regionmap.specs.Found.{wrap64}
 use Rattle.model.specs.declared.Counts.{Counts}
 use Rattle.model.specs.declared.Row.{Row}
 use Rattle.model.specs.declared.Request.{Request}
@@ -28,7 +29,7 @@ use Rattle.step.specs.Step.{begun, endOf, topOf, verdictOf}
 use Rattle.step.specs.Sound.{Sound}
 use Rattle.step.proofs.Answers.{Passed}
 use Rattle.submission.specs.Asks.{Reads, Questions}
-use Rattle.submission.proofs.Found.{store-long, in-store, region-is, piece-there}
+use Rattle.memory.proofs.Found.{store-long, in-store, region-is, piece-there}
 use Rattle.submission.specs.Decided.{FirstPiece, DecidedBy, Decides, verdictWith, endWrapped}
 use Rattle.optable.specs.Called.{lentOf}
 
@@ -40,13 +41,13 @@ module _ (c : Counts) (rows : List Row) (store free ready owners pool : List ℕ
   pub reads : Reads s c store owners
   unfolding stateIn
   reads = record {
-    words = let long = store-long c rows store free ready owners pool i same in omega (arith, long);
+    words = let long = store-long c (lentOf rows store free ready owners pool) i same in omega (arith, long);
     counts = refl;
     settings = refl;
     poison = refl;
     owners-are = refl;
-    in-store = in-store c rows store free ready owners pool i same;
-    regions = region-is c rows store free ready owners pool i same;
+    in-store = in-store c (lentOf rows store free ready owners pool) i same;
+    regions = region-is c (lentOf rows store free ready owners pool) i same;
   }
 
   module _ (q : Request) (p : Passed s q) where
@@ -75,7 +76,7 @@ module _ (c : Counts) (rows : List Row) (store free ready owners pool : List ℕ
         let inside : q .offset .0 < m .capacity = let d = p .in-data in let w = i .each (q .handle) (p .region) .lawful .within in let some = p .some in omega (arith, d, w, some) in
         let here : q .offset .0 ≡ q .offset .0 + 0 = omega arith in
         let all : q .length ≡ q .length - 0 = omega arith in
-        piece-there c rows store free ready owners pool i same (q .handle) below (q .offset .0) (q .length) inside first found
+        piece-there c (lentOf rows store free ready owners pool) i same (q .handle) below (q .offset .0) (q .length) inside first found
         ∙ (λ j. record { offset = offsetOf (place m (here j)); count = pieceSize m (here j) (all j) })
 
   -- the code's verdict of an answer that is the questions' is the definition's, where a yes means that they all passed

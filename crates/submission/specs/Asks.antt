@@ -6,13 +6,11 @@ use Prim.Native.Nat.{ℕ, _≤_, _<_}
 use lib.ListN.{length, take}
 use Rattle.domain.specs.declared.Poisoned.{Poisoned}
 use Rattle.completion.specs.declared.Context.{Context}
-use Rattle.completion.specs.declared.Context.the-variants.{Region as withRegion}
-use Rattle.model.specs.declared.Opening.{Opening}
-use Rattle.model.specs.declared.Counts.{Counts}
-use Rattle.model.specs.declared.Request.{Request}
-use Rattle.model.specs.declared.Asked.{Asked}
+use Rattle.completion.specs.declared.Context.the-variants as Context
+use Rattle.model.specs.declared.{Opening.Opening, Counts.Counts, Request.Request, Asked.Asked}
 use Rattle.model.specs.State.{State, Region}
 use Rattle.model.specs.Memory.{settingsIn, poisonIn, ownerIn}
+use Rattle.model.specs.Opening.{HEAD}
 use Rattle.step.specs.Questions.{rangeFrom, regionAt, firstNo, bufferInPool, hostHoldsBuffer, roomInTable, lifetimeLeft, gateOpen}
 use Rattle.step.specs.Questions.{storeWritable, unpoisoned, regionWritable, volumeAndRegionMatch, generationMatches}
 use Rattle.step.specs.Questions.{lengthAbove0, writeOnBlock, readOnBlock, aligned, withinData}
@@ -21,7 +19,7 @@ use Rattle.memory.specs.Live.{InStore, regionOf}
 
 -- a state whose counts are c and whose settings, poison, regions and owners lie in these words
 pub record Reads (s : State) (c : Counts) (store owners : List ℕ) : Type 0 where
-  pub words : 48 ≤ length store
+  pub words : HEAD ≤ length store
   pub counts : s .counts ≡ c
   pub settings : s .settings ≡ settingsIn store
   pub poison : s .poison ≡ poisonIn store
@@ -36,7 +34,7 @@ Questions list c store owners q r = (s : State) → Reads s c store owners → r
 -- the questions of a write behind the first, of what was read: 2 to 14
 unfoldable pub writeList : Opening → Counts → LiveRegion → Poisoned → Bool → Request → List Asked
 writeList o n g p held q =
-    let c = withRegion (g .id) in
+    let c = Context.Region (g .id) in
     bufferInPool (o .buffers) (o .capacity) c q
     ∷ hostHoldsBuffer held c
     ∷ roomInTable (o .depth) n c
@@ -55,7 +53,7 @@ writeList o n g p held q =
 -- of a read: 10, 11, 2 to 6, 12 to 14
 unfoldable pub readList : Opening → Counts → LiveRegion → Bool → Request → List Asked
 readList o n g held q =
-    let c = withRegion (g .id) in
+    let c = Context.Region (g .id) in
     let r = rangeFrom (g .id) (q .offset) (q .length) in
     volumeAndRegionMatch (o .volume) (g .id) c q
     ∷ generationMatches (g .generation) c q

@@ -4,21 +4,16 @@ use mathlib.Core.Bool.{true, false}
 use mathlib.Core.List.{List, map}
 use Prim.Native.Nat.{ℕ, _+_}
 use lib.ListN.{getD}
-use Rattle.regionmap.specs.declared.FoundPiece.{FoundPiece}
-use Rattle.regionmap.specs.declared.Position.{Position}
-use Rattle.regionmap.specs.Words.{positionOf, wrap64}
-use Rattle.model.specs.declared.Counts.{Counts}
-use Rattle.model.specs.declared.Request.{Request}
-use Rattle.model.specs.declared.Row.{Row}
-use Rattle.model.specs.declared.Asked.{Asked}
-use Rattle.model.specs.declared.Asked.the-variants.{Yes, No}
-use Rattle.model.specs.declared.Kind.{Kind}
-use Rattle.model.specs.declared.Verdict.{Verdict}
-use Rattle.model.specs.declared.Verdict.the-variants.{No as refuses, Accept}
+use Rattle.regionmap.specs.declared.{FoundPiece.FoundPiece, Position.Position}
+use Rattle.regionmap.specs.Words.{positionOf}
+use Rattle.regionmap.specs.Found.{wrap64}
+use Rattle.model.specs.declared.{Counts.Counts, Request.Request, Row.Row, Asked.Asked, Kind.Kind, Verdict.Verdict}
+use Rattle.model.specs.declared.Asked.the-variants as Asked
+use Rattle.model.specs.declared.Verdict.the-variants as Verdict
 use Rattle.model.specs.State.{State}
 use Rattle.model.specs.Memory.{Lent, lengthsOf, sameLengths, stateIn}
 use Rattle.step.specs.Sound.{Sound}
-use Rattle.submission.specs.Piece.{PieceIn}
+use Rattle.memory.specs.Piece.{PieceIn}
 use Rattle.optable.specs.Called.{lentOf}
 
 -- the map's piece for a request, of the region at its handle
@@ -31,12 +26,12 @@ endWrapped q = positionOf (wrap64 (q .offset .0 + q .length))
 
 -- the verdict of the questions' answer, with the row on top of the free stack and the first piece
 unfoldable pub verdictWith : Asked → ℕ → Kind → FoundPiece → Verdict
-verdictWith (No f) row k p = refuses f
-verdictWith Yes row k p = Accept row k p
+verdictWith (Asked.No f) row k p = Verdict.No f
+verdictWith Asked.Yes row k p = Verdict.Accept row k p
 
 pub record DecidedBy (asked : Asked) (live : ℕ) (store free : List ℕ) (k : Kind) (q : Request) (v : Verdict) : Type 0 where
   pub first : FoundPiece
-  pub found : asked ≡ Yes → FirstPiece store q first
+  pub found : asked ≡ Asked.Yes → FirstPiece store q first
   pub verdict : v ≡ verdictWith asked (getD free live 0) k first
 
 -- of every sound table whose parts lie in these words, once the lengths are found to be the opening's: what the definition says

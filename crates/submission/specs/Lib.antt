@@ -1,5 +1,4 @@
--- What is promised of the questions, of a piece, of the verdict and of what it leaves.
+-- What is promised of the questions, of the verdict and of what it leaves.
 pub mod Asks
-pub mod Piece
 pub mod Decided
 pub mod Touched

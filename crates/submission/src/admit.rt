@@ -4,7 +4,6 @@ ghost use mathlib.Core.Bool.{_&&_};
 ghost use mathlib.Core.List.{[], _∷_, map};
 ghost use lib.ListN.{getD, take};
 ghost use lib.Dec.{leb, ltb};
-ghost use Rattle.completion.specs.declared.Refusal.the-variants.{ForeignBuffer};
 ghost use Rattle.model.specs.State.{Owner.lost};
 ghost use Rattle.model.specs.Memory.{ownerIn};
 ghost use Rattle.step.specs.Questions.{isHost, ask, firstNo, hostHoldsBuffer, roomInTable, lifetimeLeft, gateOpen};
@@ -60,7 +59,7 @@ pub fn admit(
     gate: Gate,
     c: Context,
 ) -> Asked
-    ensures { λ r. ⌜ r ≡ firstNo (ask pooled (ForeignBuffer c) ∷ hostHoldsBuffer held c ∷ roomInTable depth counts c
+    ensures { λ r. ⌜ r ≡ firstNo (ask pooled (Refusal.ForeignBuffer c) ∷ hostHoldsBuffer held c ∷ roomInTable depth counts c
         ∷ lifetimeLeft lifetime counts c ∷ gateOpen gate c ∷ []) ⌝ }
 {
     if !pooled {

@@ -1,12 +1,10 @@
 // Whether a submission is accepted, and as what (store-io's submitter/mod.rs: write, read_page and read): the questions, and of an
 // accepted one the row on top of the free stack and the first piece.
 //
-// admit       questions 2 to 6
-// firstpiece  a piece, found by its region's map
-// issue       what a verdict leaves
-// questions   the questions in their order
+// admit      questions 2 to 6
+// issue      what a verdict leaves
+// questions  the questions in their order
 pub mod admit;
-pub mod firstpiece;
 pub mod issue;
 pub mod questions;
 
@@ -38,7 +36,7 @@ fn decide(asked: Asked, live: u64, store: &[u64], free: &[u64], kind: Kind, q: R
             Verdict::Accept {
                 row: optable::top(free, live),
                 kind,
-                piece: crate::firstpiece::first_piece(store, q.handle, start, q.length),
+                piece: memory::piece::first_piece(store, q.handle, start, q.length),
             }
         }
     }

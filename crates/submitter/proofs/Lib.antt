@@ -1,8 +1,6 @@
 -- What the proofs of the opening, of a call and of a lookup share, and then what those of host share.
 pub mod Again
 pub mod Calling
-pub mod Looking
-pub mod Opening
 pub mod Passing
 pub mod Slices
 pub mod Values

@@ -36,12 +36,12 @@ use Rattle.optable.proofs.touched.Touched.Laws as DecidedLaws
 use Rattle.optable.proofs.Element.{R}
 use Rattle.optable.proofs.Element as Element
 use Rattle.optable.proofs.Counted.{frees}
-use Rattle.submitter.specs.declared.Fit.{Fit}
-use Rattle.submitter.proofs.Fit as Fitting
-use Rattle.submitter.proofs.Fit.Laws as FittingLaws
-use Rattle.submitter.specs.declared.Opened.{Opened}
-use Rattle.submitter.proofs.Opened as Replied
-use Rattle.submitter.proofs.Opened.Laws as RepliedLaws
+use Rattle.memory.specs.declared.lengths.Fit.{Fit}
+use Rattle.memory.proofs.lengths.Fit as Fitting
+use Rattle.memory.proofs.lengths.Fit.Laws as FittingLaws
+use Rattle.opening.specs.declared.Opened.{Opened}
+use Rattle.opening.proofs.Opened as Replied
+use Rattle.opening.proofs.Opened.Laws as RepliedLaws
 
 -- what is given
 abbrev pub Opening-row : RattleType

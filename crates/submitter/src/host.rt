@@ -1,17 +1,17 @@
 // The submitter's calls for a program in Rattle, which holds rows and counts by value: they are lent to the calls here, so that the program needs no
-// reference to a row. 64 rows, whatever the depth: row memory may be longer than the depth.
+// reference to a row. 64 rows, whatever the depth: row memory may be longer than the depth (D-23).
 ghost use mathlib.Core.Path.{_≡_};
 ghost use Rattle.optable.specs.Called.{lentOf, CallsTo, LooksTo};
-ghost use Rattle.submitter.specs.Open.{OpensTo};
+ghost use Rattle.opening.specs.Opened.{OpensTo};
 ghost use lib.ListN.{take};
 ghost use Rattle.optable.specs.Looked.{lookedIn};
-use crate::Opened;
 use completion::Reply;
 use model::Call;
 use model::Counts;
 use model::Lookup;
 use model::Opening;
 use model::Row;
+use opening::Opened;
 use optable::lookup::Looked;
 
 // The rows after an opening, and its reply.
@@ -86,7 +86,7 @@ pub fn call_in(
 fn looked(rows: [Row; 64], depth: usize, next: u64) -> Looked
     ensures { λ r. ⌜ r ≡ lookedIn next (take depth rows) ⌝ }
 {
-    let mut i = optable::smaller(depth, 64);
+    let mut i = layout::lesser(depth, 64);
     let mut l = Looked {
         writes: false,
         oldest: next,
@@ -113,7 +113,7 @@ pub fn look_in(
     ensures { λ r. ⌜ LooksTo x counts
         (lentOf rows (now (store .entry)) (now (free .entry)) (now (ready .entry)) (now (owners .entry)) (now (pool .entry))) r ⌝ }
 {
-    let f = crate::fitted(64, store, free, ready, owners, pool);
+    let f = memory::lengths::fitted(64, store, free, ready, owners, pool);
     let l = looked(rows, f.depth, counts.submissions);
-    crate::answer(x, counts, f.fits, l)
+    optable::lookup::answer(x, counts, f.fits, l)
 }

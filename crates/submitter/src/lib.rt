@@ -4,42 +4,15 @@
 // host  the same for a program in Rattle that holds rows and counts by value
 pub mod host;
 
-ghost use mathlib.Core.Path.{_≡_};
-ghost use lib.ListN.{length};
 ghost use Rattle.optable.specs.Called.{lentOf, CallsTo, LooksTo};
-ghost use Rattle.opening.specs.Prepared.{lengthsWith};
-ghost use Rattle.submitter.specs.Open.{openedWith, OpensTo};
-ghost use Rattle.submitter.specs.Look.{fitOf, answerOf};
-use completion::Refusal;
+ghost use Rattle.opening.specs.Opened.{OpensTo};
 use completion::Reply;
 use model::Call;
 use model::Counts;
-use model::Lengths;
 use model::Lookup;
 use model::Opening;
 use model::Row;
-use optable::lookup::Looked;
-
-// The reply to an opening: the table's counts, or 13.
-pub enum Opened {
-    Table(Counts),
-    No(Refusal),
-}
-
-// The reply, by how many rows there are.
-pub fn reply(depth: usize) -> Opened
-    ensures { λ r. ⌜ r ≡ openedWith depth ⌝ }
-{
-    if depth == 0 {
-        Opened::No(Refusal::Unfit)
-    } else {
-        Opened::Table(Counts {
-            live: 0,
-            ready: 0,
-            submissions: 0,
-        })
-    }
-}
+use opening::Opened;
 
 // Opens a table in what is lent (Store::submitter). The plan lists the regions, 70 words each. 13 where a rule of document 01's "Opening" is broken
 // or a part of the row memory is too short, and then nothing is changed.
@@ -68,11 +41,11 @@ pub fn open(
         pool.len(),
     );
     optable::rows::new(rows, depth);
-    reply(depth)
+    opening::reply(depth)
 }
 
 // One call (Submitter::write, read_page, and the calls of queue_core.rs): the row that it touches is found, what the call does to it is decided,
-// and it is claimed, or released, with the counts, as decided; a call that is turned away claims the row as it was.
+// and it is claimed, or released, with the counts, as decided; a call that is turned away claims the row as it was (D-16, D-21).
 pub fn call(
     call: Call,
     counts: &mut Counts,
@@ -99,58 +72,6 @@ pub fn call(
     t.reply
 }
 
-// Whether what is lent has the lengths of the opening, and the depth of the table then.
-pub struct Fit {
-    pub fits: bool,
-    pub depth: usize,
-}
-
-// What is lent, as a lookup finds it.
-pub fn fitted(
-    rows: usize,
-    store: &[u64],
-    free: &[u64],
-    ready: &[u64],
-    owners: &[u64],
-    pool: &[u8],
-) -> Fit
-    ensures { λ r. ⌜ r ≡ fitOf
-        (lengthsWith rows (now (store .entry)) (now (free .entry)) (now (ready .entry)) (now (owners .entry)) (length (now (pool .entry))))
-        (now (store .entry)) ⌝ }
-{
-    let l = Lengths {
-        rows: rows as u64,
-        store: store.len() as u64,
-        free: free.len() as u64,
-        ready: ready.len() as u64,
-        owners: owners.len() as u64,
-        pool: pool.len() as u64,
-    };
-    if memory::lengths::same_lengths(store, l) {
-        let o = memory::settings::settings(store);
-        Fit {
-            fits: true,
-            depth: o.depth as usize,
-        }
-    } else {
-        Fit {
-            fits: false,
-            depth: 0,
-        }
-    }
-}
-
-// The reply to a lookup, by whether the lengths are the opening's: "A later call with another length of row memory or pool gets 13 first."
-pub fn answer(x: Lookup, counts: Counts, fits: bool, l: Looked) -> Reply
-    ensures { λ r. ⌜ r ≡ answerOf fits x counts l ⌝ }
-{
-    if fits {
-        optable::lookup::reply(x, counts, l)
-    } else {
-        Reply::No(Refusal::Unfit)
-    }
-}
-
 // One lookup (store-io's writes_live, and the mark): it changes nothing.
 pub fn lookup(
     x: Lookup,
@@ -165,7 +86,7 @@ pub fn lookup(
     ensures { λ r. ⌜ LooksTo x counts
         (lentOf (now (rows .entry)) (now (store .entry)) (now (free .entry)) (now (ready .entry)) (now (owners .entry)) (now (pool .entry))) r ⌝ }
 {
-    let f = fitted(rows.len(), store, free, ready, owners, pool);
+    let f = memory::lengths::fitted(rows.len(), store, free, ready, owners, pool);
     let l = optable::lookup::look(rows, f.depth, counts.submissions);
-    answer(x, counts, f.fits, l)
+    optable::lookup::answer(x, counts, f.fits, l)
 }

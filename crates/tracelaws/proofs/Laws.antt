@@ -8,13 +8,13 @@ use lib.ListN.{length, take, drop, take-append-drop}
 use lib.Seq.{take-append-seam}
 use Rattle.layout.specs.Pick.{pick}
 use Rattle.model.specs.declared.Opening.{Opening}
-use Rattle.model.specs.Laws.{fresh}
+use Rattle.model.specs.State.{fresh}
 use Rattle.model.specs.Memory.{Lent, lengthsOf, openedLent, lentAfter}
 use Rattle.model.specs.Opening.{opens}
 use Rattle.optable.specs.Called.{lentOf}
 use Rattle.hostfill.specs.MayFill.{Open}
-use Rattle.parser.specs.declared.opening.OpenLine.{OpenLine}
-use Rattle.parser.specs.declared.opening.OpenLine.the-variants.{Comment, Open as opens-with, Region, Start, Bad}
+use Rattle.parser.specs.declared.preamble.OpenLine.{OpenLine}
+use Rattle.parser.specs.declared.preamble.OpenLine.the-variants.{Comment, Open as opens-with, Region, Start, Bad}
 use Rattle.parser.specs.Openings.{openLineRead}
 use Rattle.parser.specs.Said.{saidRead}
 use Rattle.session.specs.declared.start.Started.{Started}

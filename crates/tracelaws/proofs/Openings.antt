@@ -7,7 +7,7 @@ use native.Mathlib.Omega.{arith}
 use lib.ListN.{length, take, drop, replicate, length-append, length-take, length-drop, length-replicate}
 use Rattle.model.specs.declared.Opening.{Opening}
 use Rattle.model.specs.State.{freed, upFrom}
-use Rattle.model.specs.Laws.{fresh}
+use Rattle.model.specs.State.{fresh}
 use Rattle.model.specs.Memory.{Lent, lengthsOf, storeHead, over, rowsOpened, storeOpened, freeOpened, readyOpened, ownersOpened, openedLent}
 use Rattle.model.specs.Opening.{plansIn, opens}
 use Rattle.model.proofs.Laws.{opening-laws, asked}

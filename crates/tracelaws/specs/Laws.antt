@@ -9,23 +9,23 @@ use Rattle.step.specs.Questions.{regionAt}
 use Rattle.hostfill.specs.MayFill.{Open}
 use Rattle.session.specs.Asking.{namedIn}
 use Rattle.session.specs.declared.Stage.{Stage}
-use Rattle.session.specs.declared.Stage.the-variants.{Before, Planned, Table, Refused, Over}
+use Rattle.session.specs.declared.Stage.the-variants as Stage
 use Rattle.session.specs.Unopened.{Stood}
 use Rattle.session.specs.Opened.{partOf}
 use Rattle.session.specs.Lines.{Line}
 
 unfoldable pub StandsAt : Stage → Stood → Type 0
-StandsAt Before s = Unit {0}
-StandsAt (Planned o) s = Unit {0}
-StandsAt (Table k) s = Open (s .counts) (partOf k s .lent)
-StandsAt Refused s = Unit {0}
-StandsAt Over s = Unit {0}
+StandsAt Stage.Before s = Unit {0}
+StandsAt (Stage.Planned o) s = Unit {0}
+StandsAt (Stage.Table k) s = Open (s .counts) (partOf k s .lent)
+StandsAt Stage.Refused s = Unit {0}
+StandsAt Stage.Over s = Unit {0}
 
 abbrev pub Stands : Stood → Type 0
 Stands s = StandsAt (s .stage) s
 
 pub record TraceLaws : Type 0 where
-  pub first : (s : Stood) → StandsAt Before s
+  pub first : (s : Stood) → StandsAt Stage.Before s
   -- `w` and `r`: "handle 0, with its own volume, id and generation" names what the table has there
   pub own-names : (c : Counts) (l : Lent) → Open c l → namedIn (l .store) ≡
       record { volume = stateIn c l .settings .volume; region = regionAt (stateIn c l) 0 .id; generation = regionAt (stateIn c l) 0 .generation }

@@ -16,7 +16,7 @@ returns c =
     let named = did .before .before .before .before .before .before .before .before .before .before in
     let form = named .before .before .cause-form in
     let a = named .before .before .before .before .before .before .before .before .before .args in
-    by-form poisoning (form .result) (causeForm (a .op) (a .has) (a .raw)) (form .ensures) _ (ap poisoning (named .named .given .1)) _ _ _ (did .poisoned .ensures)
+    by-form poisoning (form .result) (causeForm (a .op) (a .has) (a .raw)) (form .ensures) _ (ap poisoning (named .named .given .1)) _ _ _ (did .set .ensures)
 
 returns-2 : tie.Need-returns-2
 unfolding AnswersOut poisoning

@@ -16,7 +16,7 @@ returns c =
     let named = did .before .before .before .before .before .before .before .before .before .before in
     let form = named .before .before .gate-form in
     let a = named .before .before .before .before .before .before .before .before .before .args in
-    by-form (gating (a .handle)) (form .result) (gateForm (a .gate)) (form .ensures) _ (ap (gating (a .handle)) (named .named .given .1)) _ _ _ (did .gated .ensures)
+    by-form (gating (a .handle)) (form .result) (gateForm (a .gate)) (form .ensures) _ (ap (gating (a .handle)) (named .named .given .1)) _ _ _ (did .set .ensures)
 
 returns-2 : tie.Need-returns-2
 unfolding AnswersOut gating

@@ -25,9 +25,6 @@ returns-2 c = no-number _ (λ s. omega (arith, s .few))
 loop-holds : tie.Need-loop-holds Inv-loop μ-loop
 loop-holds c = (omega arith, omega arith, refl, refl)
 
-shared-slice-read-c : tie.Need-shared-slice-read-c Inv-loop μ-loop
-shared-slice-read-c c = omega arith
-
 returns-3 : tie.Need-returns-3 Inv-loop μ-loop
 returns-3 c =
     let head = c .before .before .before in
@@ -42,12 +39,6 @@ returns-4 c =
     let i = head .loop .i in
     no-number text (λ s. not-both (s .digits) (head .loop .inv .3 ∙ digits-above text i (omega arith) (omega arith)))
 
-cast-d : tie.Need-cast-d Inv-loop μ-loop
-cast-d c = omega arith
-
-sub-if5 : tie.Need-sub-if5 Inv-loop μ-loop
-sub-if5 c = omega arith
-
 returns-5 : tie.Need-returns-5 Inv-loop μ-loop
 returns-5 c =
     let head = c .before .before .before .before .before in
@@ -55,18 +46,6 @@ returns-5 c =
     let i = head .loop .i in
     let n = head .loop .n in
     no-number text (λ s. omega (arith, s .fits, head .loop .inv .2, value-on text i n (omega arith), value-grows (10 * n + (getD text i 0 - 48)) (drop (i + 1) text)))
-
-mul-n : tie.Need-mul-n Inv-loop μ-loop
-mul-n c = omega arith
-
-add-n : tie.Need-add-n Inv-loop μ-loop
-add-n c = omega arith
-
-add-i : tie.Need-add-i Inv-loop μ-loop
-add-i c = omega arith
-
-loop-less : tie.Need-loop-less Inv-loop μ-loop
-loop-less c = omega arith
 
 loop-again : tie.Need-loop-again Inv-loop μ-loop
 loop-again c =
@@ -94,15 +73,15 @@ number-spec =
     returns
     returns-2
     loop-holds
-    shared-slice-read-c
+    (λ c. omega arith)
     returns-3
     returns-4
-    cast-d
-    sub-if5
+    (λ c. omega arith)
+    (λ c. omega arith)
     returns-5
-    mul-n
-    add-n
-    add-i
-    loop-less
+    (λ c. omega arith)
+    (λ c. omega arith)
+    (λ c. omega arith)
+    (λ c. omega arith)
     loop-again
     returns-6)

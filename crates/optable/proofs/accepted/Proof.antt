@@ -2,7 +2,7 @@
 use mathlib.Core.Path.{sym, ap, _∙_}
 use mathlib.Core.Bool.{Bool}
 use Rattle.layout.specs.Pick.{pick}
-use Rattle.regionmap.specs.Words.{wrap64}
+use Rattle.regionmap.specs.Found.{wrap64}
 use Rattle.optable.specs.Counted.{acceptedIf}
 use borrow.Author.Needs.{needs}
 use Rattle.optable.proofs.accepted.Statement.{statement}

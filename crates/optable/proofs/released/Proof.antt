@@ -1,6 +1,6 @@
 -- `optable::released` meets its contract, case by case.
 use mathlib.Core.Path.{_≡_, sym, ap, _∙_}
-use Rattle.regionmap.specs.Words.{wrap64}
+use Rattle.regionmap.specs.Found.{wrap64}
 use Rattle.model.specs.declared.Counts.{Counts}
 use Rattle.optable.specs.declared.Frees.{Frees}
 use Rattle.optable.specs.Counted.{releasedBy}

@@ -4,6 +4,7 @@ use Prim.Native.Nat.{ℕ}
 use lib.ListN.{length}
 use borrow.Author.Tests.{not-true, not-false}
 use Rattle.model.specs.Memory.{lengthsOf, sameLengths}
+use Rattle.memory.specs.Lengths.{lengthsWith}
 use Rattle.queuecore.proofs.QueuecoreTouching.{unfit}
 use borrow.Author.Needs.{needs}
 use Rattle.queuecore.proofs.touch.Statement.{statement}
@@ -12,17 +13,17 @@ use Rattle.queuecore.proofs.touch.Tie as tie
 returns : tie.Need-returns
 unfolding lengthsOf
 returns c =
-    let a = c .before .before .before .before .before .before .before .before .before .args in
+    let a = c .before .before .before .before .before .before .before .before .before .before .before .before .before .args in
     unfit (a .call) (a .row) (a .counts) (a .rows) (a .store .now) (a .free .now) (a .ready .now) (a .owners .now) (a .pool .now) (c .away .result) (c .away .ensures)
-    (λ rows len. (ap (λ (k : ℕ). sameLengths (record { rows = k; store = length (a .store .now); free = length (a .free .now); ready = length (a .ready .now); owners = length (a .owners .now); pool = length (a .pool .now) }) (a .store .now)) len ∙ sym (c .before .before .same-lengths .ensures) ∙ not-true _ (c .before .if1 .taken)))
+    (λ rows len. (ap (λ (k : ℕ). sameLengths (lengthsWith k (a .store .now) (a .free .now) (a .ready .now) (a .owners .now) (length (a .pool .now))) (a .store .now)) len ∙ sym (c .before .before .fits2 .ensures) ∙ not-true _ (c .before .if1 .taken)))
 
 returns-2 : tie.Need-returns-2
 unfolding lengthsOf
 returns-2 c =
     let fit = c .before .before .before .before .before .before .before .before .before .before .before .before .before .before .before .before in
-    let a = fit .before .before .before .before .before .before .before .before .args in
+    let a = fit .before .before .before .before .before .before .before .before .before .before .before .before .args in
     λ rows len found. c .before .before .before .before .before .before .before .before .before .before .arm .ensures rows len found
-    (ap (λ (k : ℕ). sameLengths (record { rows = k; store = length (a .store .now); free = length (a .free .now); ready = length (a .ready .now); owners = length (a .owners .now); pool = length (a .pool .now) }) (a .store .now)) len ∙ sym (fit .before .same-lengths .ensures) ∙ not-false _ (fit .if1 .left))
+    (ap (λ (k : ℕ). sameLengths (lengthsWith k (a .store .now) (a .free .now) (a .ready .now) (a .owners .now) (length (a .pool .now))) (a .store .now)) len ∙ sym (fit .before .fits2 .ensures) ∙ not-false _ (fit .if1 .left))
 
 pub touch-spec : {M : Type 1} → statement M
 touch-spec =
@@ -30,6 +31,10 @@ touch-spec =
     (tie.spec
     (λ c κs. search needs)
     (λ c κs. search needs)
+    (λ c. search needs)
+    (λ c. search needs)
+    (λ c. search needs)
+    (λ c. search needs)
     (λ c. search needs)
     returns
     (λ c κs. search needs)

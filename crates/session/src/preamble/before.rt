@@ -8,7 +8,7 @@ ghost use Rattle.session.specs.Unopened.{Stood, atStage, Tells, beforeLi
 use crate::Stage;
 use crate::preamble::Follows;
 use fields::reader::Reader;
-use parser::opening::OpenLine;
+use parser::preamble::OpenLine;
 
 // A line before `open` is answered.
 pub fn before_line(r: Reader, text: &[u8; 4096], number: u64, out: &mut [u8; 4096]) -> Follows
@@ -16,7 +16,7 @@ pub fn before_line(r: Reader, text: &[u8; 4096], number: u64, out: &mut [u8; 409
         ((bytes : List ℕ) → Kept r (now (text .entry)) bytes → (s : Stood) → Tells (beforeLine (openLineRead bytes) number s) (atStage (f .stage) s)
         (take (f .printed) (now (out .exit)))) ⌝ }
 {
-    let line = parser::opening::finish(r, text);
+    let line = parser::preamble::finish(r, text);
     match line {
         OpenLine::Comment => Follows {
             stage: Stage::Before,

@@ -17,7 +17,7 @@ use fields::reader::Reader;
 use model::Counts;
 use model::Opening;
 use model::Row;
-use parser::opening::OpenLine;
+use parser::preamble::OpenLine;
 
 // An opening with as many regions.
 fn with_regions(o: Opening, n: u64) -> Opening
@@ -61,7 +61,7 @@ fn opening_line(
             printed: 0,
         },
         OpenLine::Region => {
-            let n = parser::opening::add_kept(r, text, plan, o.regions);
+            let n = parser::preamble::add_kept(r, text, plan, o.regions);
             Follows {
                 stage: Stage::Planned(with_regions(o, n)),
                 printed: 0,
@@ -100,7 +100,7 @@ pub fn planned_line(
         (take (a .printed) (now (out .exit)))) ⌝ }
     ensures bounded { λ a. ⌜ a .printed ≤ 4096 ⌝ }
 {
-    let line = parser::opening::finish(r, text);
+    let line = parser::preamble::finish(r, text);
     match line {
         OpenLine::Start => start::start_line(
             o,

@@ -57,11 +57,7 @@ fn counts_after(started: Started, counts: Counts) -> Counts
     ensures { λ r. ⌜ ((o : opening) (s : Stood) → s .counts ≡ counts → r ≡ startLine started o s .stood .counts) ⌝ }
 {
     match started {
-        Started::Table => Counts {
-            live: 0,
-            ready: 0,
-            submissions: 0,
-        },
+        Started::Table => opening::fresh(),
         _ => counts,
     }
 }

@@ -1,7 +1,8 @@
 -- `submission::end_of` meets its contract, by that of the wrapping sum.
 use mathlib.Core.Path.{ap}
 use borrow.Author.Needs.{needs}
-use Rattle.regionmap.specs.Words.{positionOf, wrap64}
+use Rattle.regionmap.specs.Words.{positionOf}
+use Rattle.regionmap.specs.Found.{wrap64}
 use Rattle.submission.proofs.end_of.Statement.{statement}
 use Rattle.submission.proofs.end_of.Tie as tie
 

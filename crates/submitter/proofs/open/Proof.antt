@@ -1,7 +1,7 @@
 -- `submitter::open` meets its contract: a walk of its MIR by hand, since the borrow checker covers no function over a `&mut [Row]`. The plan and the
 -- four slices of numbers are passed on to `prepare` for good, each at its own lifetime, and the rows to `new`; `reply` makes the reply of the number
 -- of rows. `begins` takes what is had at entry apart, `exits` puts together what is had at exit; what the three callees ensure makes what `open`
--- ensures by `Opening`. Of the callees the proof knows that they meet their contracts.
+-- ensures by opening's `Opens`. Of the callees the proof knows that they meet their contracts.
 use mathlib.Core.Path.{_≡_, refl, ap}
 use mathlib.Core.List.{List, [], _∷_}
 use Prim.Native.Nat.{ℕ, _<_, _^_, min}
@@ -41,7 +41,8 @@ use denote.Triple.Walked.{says, Stays, gave-slice, stay-dropped, walkOf, goes-ga
 use Rattle.model.specs.declared.Opening.{Opening}
 use Rattle.model.specs.declared.Row.{Row}
 use Rattle.model.specs.Memory.{rowsOpened}
-use Rattle.opening.specs.Prepared.{lengthsWith, Prepared}
+use Rattle.memory.specs.Lengths.{lengthsWith}
+use Rattle.opening.specs.Prepared.{Prepared}
 use Rattle.opening.proofs.store.prepare as prepare
 use Rattle.opening.proofs.store.prepare.Symbol as prepare-def
 use Rattle.opening.proofs.store.prepare.Symbol.{name as #store·prepare}
@@ -51,15 +52,15 @@ use Rattle.optable.proofs.rows.new as new
 use Rattle.optable.proofs.rows.new.Symbol as new-def
 use Rattle.optable.proofs.rows.new.Symbol.{name as #rows·new}
 use Rattle.optable.proofs.rows.new.Met as new-thm
-use Rattle.submitter.specs.declared.Opened.{Opened}
-use Rattle.submitter.specs.Open.{openedWith}
-use Rattle.submitter.proofs.Opening.{opens-to}
+use Rattle.opening.specs.declared.Opened.{Opened}
+use Rattle.opening.specs.Opened.{openedWith}
+use Rattle.opening.proofs.Opens.{opens-to}
 use Rattle.submitter.proofs.Slices.{Words, count}
 use Rattle.submitter.proofs.Values.{Opening-row, Opened-row, val, vals, tells, opening-typed, opened-typed}
-use Rattle.submitter.proofs.reply as reply
-use Rattle.submitter.proofs.reply.Symbol as reply-def
-use Rattle.submitter.proofs.reply.Symbol.{name as #submitter·reply}
-use Rattle.submitter.proofs.reply.Met as reply-thm
+use Rattle.opening.proofs.reply as reply
+use Rattle.opening.proofs.reply.Symbol as reply-def
+use Rattle.opening.proofs.reply.Symbol.{name as #opening·reply}
+use Rattle.opening.proofs.reply.Met as reply-thm
 use Rattle.submitter.proofs.open.Key.{name as #submitter·open}
 use Rattle.submitter.proofs.open as self
 use Rattle.submitter.proofs.open.Statement as stated
@@ -197,7 +198,7 @@ module _ {M : Type 1} (𝓤 : URA M) (H : Heap 𝓤) (A : Atoms 𝓤) (W : Given
   goes-reply : (d : ℕ) → ent 𝓤 (sem 𝓤 H A (usize .own d (vint w64 d ∷ []))) (Reply 𝓤 H A mem run .pre (to-reply d))
   goes-reply d = qed W (‵ (usize .own d (vint w64 d ∷ [])) ∷ []) ∵ nothing ! $ move ! (1 ∷ 0 ∷ []) $ join ! $ nothing ! $ join ! $ frame ! $ done !
 
-  module _ (C : Calls 𝓤 H) (Λ : Loops 𝓤 H) (fm : FmC 𝓤 H (W .laws) C) (known-prepare : Triple 𝓤 (C #store·prepare) (Prepare 𝓤 H A mem run)) (known-new : Triple 𝓤 (C #rows·new) (New 𝓤 H A mem run)) (known-reply : Triple 𝓤 (C #submitter·reply) (Reply 𝓤 H A mem run)) where
+  module _ (C : Calls 𝓤 H) (Λ : Loops 𝓤 H) (fm : FmC 𝓤 H (W .laws) C) (known-prepare : Triple 𝓤 (C #store·prepare) (Prepare 𝓤 H A mem run)) (known-new : Triple 𝓤 (C #rows·new) (New 𝓤 H A mem run)) (known-reply : Triple 𝓤 (C #opening·reply) (Reply 𝓤 H A mem run)) where
     walk : Rooms plan rows store free ready owners pool → Is Opening-row o (val o ∷ []) → ent 𝓤 (onEntry 𝓤 H A self.signature (κ₀, (κ₁, (κ₂, (κ₃, (κ₄, (κ₅, (κ₆, tt))))))) (q₀, (q₁, (q₂, (q₃, (q₄, (q₅, (q₆, tt))))))) a at)
         (WpFn 𝓤 H C Λ code.function (val o ∷ count plan ∷ count rows ∷ count store ∷ count free ∷ count ready ∷ count owners ∷ count pool ∷ []) Post)
     walk rooms is-o =
@@ -252,7 +253,7 @@ module _ {M : Type 1} (𝓤 : URA M) (H : Heap 𝓤) (A : Atoms 𝓤) (W : Given
         keep ! (4 ∷ 1 ∷ 10 ∷ 2 ∷ 9 ∷ 8 ∷ 7 ∷ 5 ∷ 0 ∷ []) $ by ! (exits depth r w (zs .0) (ws .1 .1 .1 .0) (ws .1 .1 .1 .1 .0) (ws .1 .1 .1 .1 .1 .0) (ws .1 .1 .1 .1 .1 .1 .0) did freed replied rows-long store-long free-long ready-long owners-long))))))))))))))))))))))))))))))))))))))))))))
 
 module _ {M : Type 1} (𝓤 : URA M) (H : Heap 𝓤) (A : Atoms 𝓤) (W : Given 𝓤 H A) (mem : Memory → SProp 𝓤) (run : Routine → Fun 𝓤) where
-  self-walks : (C : Calls 𝓤 H) (Λ : Loops 𝓤 H) → FmC 𝓤 H (W .laws) C → Triple 𝓤 (C #store·prepare) (Prepare 𝓤 H A mem run) → Triple 𝓤 (C #rows·new) (New 𝓤 H A mem run) → Triple 𝓤 (C #submitter·reply) (Reply 𝓤 H A mem run)
+  self-walks : (C : Calls 𝓤 H) (Λ : Loops 𝓤 H) → FmC 𝓤 H (W .laws) C → Triple 𝓤 (C #store·prepare) (Prepare 𝓤 H A mem run) → Triple 𝓤 (C #rows·new) (New 𝓤 H A mem run) → Triple 𝓤 (C #opening·reply) (Reply 𝓤 H A mem run)
       → Walks 𝓤 H A self.ended stayed (WpFn 𝓤 H C Λ code.function) (self.clauses 𝓤 H A mem run)
   self-walks C Λ fm k₁ k₂ k₃ =
       walked 𝓤 H A self.ended stayed (self.clauses 𝓤 H A mem run) (WpFn 𝓤 H C Λ code.function) (λ κs. (vals, (slice-vals, (slice-vals, (slice-vals, (slice-vals, (slice-vals, (slice-vals, (slice-vals, tt)))))))))
@@ -277,7 +278,7 @@ module _ {M : Type 1} (𝓤 : URA M) (H : Heap 𝓤) (A : Atoms 𝓤) (W : Given
       (a .0) (a .1 .0) (a .1 .1 .0) (a .1 .1 .1 .0) (a .1 .1 .1 .1 .0) (a .1 .1 .1 .1 .1 .0) (a .1 .1 .1 .1 .1 .1 .0) (a .1 .1 .1 .1 .1 .1 .1 .0) C Λ fm k₁ k₂ k₃
       (record { plan = are .1 .0 .0 .1; rows = are .1 .1 .0 .0 .1; store = are .1 .1 .1 .0 .0 .1; free = are .1 .1 .1 .1 .0 .0 .1; ready = are .1 .1 .1 .1 .1 .0 .0 .1; owners = are .1 .1 .1 .1 .1 .1 .0 .0 .1; pool = are .1 .1 .1 .1 .1 .1 .1 .0 .0 .1 }) (are .0)))
 
-self-meets : {M : Type 1} (𝓤 : URA M) (H : Heap 𝓤) (A : Atoms 𝓤) → Given 𝓤 H A → (mem : Memory → SProp 𝓤) (run : Routine → Fun 𝓤) (𝓣 : Tables 𝓤 H) → Triple 𝓤 (𝓣 .C #store·prepare) (Prepare 𝓤 H A mem run) → Triple 𝓤 (𝓣 .C #rows·new) (New 𝓤 H A mem run) → Triple 𝓤 (𝓣 .C #submitter·reply) (Reply 𝓤 H A mem run)
+self-meets : {M : Type 1} (𝓤 : URA M) (H : Heap 𝓤) (A : Atoms 𝓤) → Given 𝓤 H A → (mem : Memory → SProp 𝓤) (run : Routine → Fun 𝓤) (𝓣 : Tables 𝓤 H) → Triple 𝓤 (𝓣 .C #store·prepare) (Prepare 𝓤 H A mem run) → Triple 𝓤 (𝓣 .C #rows·new) (New 𝓤 H A mem run) → Triple 𝓤 (𝓣 .C #opening·reply) (Reply 𝓤 H A mem run)
     → Meets 𝓤 H A self.signature (WpFn 𝓤 H (𝓣 .C) (𝓣 .Λ) code.function) (self.spec 𝓤 H A mem run)
 self-meets 𝓤 H A W mem run 𝓣 k₁ k₂ k₃ =
     walk-meets 𝓤 H A self.ended stayed W (
@@ -303,4 +304,4 @@ open-spec 𝓤 H 𝓜 𝓖 𝓡 =
     (self-meets 𝓤 H (𝓖 .A) (givenOf 𝓤 H 𝓜 𝓖) (𝓜 .mem) (𝓡 .run) (tablesOf 𝓤 H 𝓜 (tables 𝓤 H 𝓜 𝓡 code.env))
     (cited 𝓤 H (Prepare 𝓤 H (𝓖 .A) (𝓜 .mem) (𝓡 .run)) 𝓜 𝓡 code.env #store·prepare prepare-def.routine code.calls-opening·store·prepare (prepare-thm.met 𝓤 H 𝓜 𝓖 𝓡))
     (cited 𝓤 H (New 𝓤 H (𝓖 .A) (𝓜 .mem) (𝓡 .run)) 𝓜 𝓡 code.env #rows·new new-def.routine code.calls-optable·rows·new (new-thm.met 𝓤 H 𝓜 𝓖 𝓡))
-    (cited 𝓤 H (Reply 𝓤 H (𝓖 .A) (𝓜 .mem) (𝓡 .run)) 𝓜 𝓡 code.env #submitter·reply reply-def.routine code.calls-submitter·reply (reply-thm.met 𝓤 H 𝓜 𝓖 𝓡)))
+    (cited 𝓤 H (Reply 𝓤 H (𝓖 .A) (𝓜 .mem) (𝓡 .run)) 𝓜 𝓡 code.env #opening·reply reply-def.routine code.calls-opening·reply (reply-thm.met 𝓤 H 𝓜 𝓖 𝓡)))

@@ -42,7 +42,7 @@ returns-8 c =
 
 returns-9 : tie.Need-returns-9
 unfolding filled replyWords
-returns-9 c = c .five6 .ensures ∙ ap (λ (n : ℕ). filled (9 ∷ n ∷ [])) (c .before .word .ensures) ∙ sym (ap replyWords (c .before .before .before .r7 .given .1))
+returns-9 c = c .five6 .ensures ∙ ap (λ (n : ℕ). filled (9 ∷ n ∷ [])) (c .before .flag-word .ensures) ∙ sym (ap replyWords (c .before .before .before .r7 .given .1))
 
 returns-10 : tie.Need-returns-10
 unfolding filled replyWords

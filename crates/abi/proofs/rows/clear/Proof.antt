@@ -17,7 +17,7 @@ returns c =
     let a = c .before .before .before .before .before .before .args in
     let n = min (a .depth) (length (a .words .now) / 16) in
     let done : c .before .before .zeros .last .0 ≡ rowsCleared n (a .words .now) =
-    c .before .before .zeros .ensures ∙ ap (λ (k : ℕ). replicate (16 * k) 0 ++ drop (16 * k) (a .words .now)) (c .before .before .before .before .smaller .ensures) ∙ sym (cleared-is n (a .words .now)) in
+    c .before .before .zeros .ensures ∙ ap (λ (k : ℕ). replicate (16 * k) 0 ++ drop (16 * k) (a .words .now)) (c .before .before .before .before .lesser .ensures) ∙ sym (cleared-is n (a .words .now)) in
     let opened : rowsOpened n (rowsIn (a .words .now)) ≡ rowsOpened (min (a .depth) (length (rowsIn (a .words .now)))) (rowsIn (a .words .now)) =
     ap (λ (k : ℕ). rowsOpened (min (a .depth) k) (rowsIn (a .words .now))) (sym (count (a .words .now))) in
     (ap rowsIn done ∙ cleared-rows n (a .words .now) (min-le-right _ _) ∙ opened, done)

@@ -7,7 +7,7 @@ use Rattle.abi.proofs.rows.words_of.Tie as tie
 returns : tie.Need-returns
 returns c =
     let r = c .before .before .before .args .row in
-    (words-are r _ _ (c .before .before .awaits-words .ensures .0) (c .before .word .ensures), record { generation = search needs; awaits = c .before .before .awaits-words .ensures .1 })
+    (words-are r _ _ (c .before .before .awaits-words .ensures .0) (c .before .flag-word .ensures), record { generation = search needs; awaits = c .before .before .awaits-words .ensures .1 })
 
 pub words-of-spec : {M : Type 1} → statement M
 words-of-spec =

@@ -1,5 +1,5 @@
 -- `advance::piece_of` meets its contract: the position and what is left are what the callees ensure.
-use Rattle.regionmap.specs.Words.{wrap64}
+use Rattle.regionmap.specs.Found.{wrap64}
 use borrow.Author.Needs.{needs}
 use Rattle.arrival.proofs.advance.piece_of.Statement.{statement}
 use Rattle.arrival.proofs.advance.piece_of.Tie as tie

@@ -1,5 +1,5 @@
 -- `wholerows::fits` meets its contract.
-use Rattle.entry.proofs.Fitting.{fitted-fits, cut-unfit}
+use Rattle.entry.proofs.Fitting.{whole-fits, cut-unfit}
 use borrow.Author.Needs.{needs}
 use Rattle.entry.proofs.wholerows.fits.Statement.{statement}
 use Rattle.entry.proofs.wholerows.fits.Tie as tie
@@ -7,7 +7,7 @@ use Rattle.entry.proofs.wholerows.fits.Tie as tie
 returns : tie.Need-returns
 returns c =
     let a = c .before .before .before .before .before .before .before .before .args in
-    fitted-fits (a .rows .now) (a .store .now) (a .free .now) (a .ready .now) (a .owners .now) (a .pool .now) (c .before .if1 .taken) (c .fitted .result) (c .fitted .ensures)
+    whole-fits (a .rows .now) (a .store .now) (a .free .now) (a .ready .now) (a .owners .now) (a .pool .now) (c .before .if1 .taken) (c .fits2 .result) (c .fits2 .ensures)
 
 returns-2 : tie.Need-returns-2
 returns-2 c =

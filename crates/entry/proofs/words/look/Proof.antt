@@ -17,14 +17,14 @@ Inv-loop rows depth next i₀ l₀ i l = (i ≤ min depth (length rows / 16)) ×
 abbrev μ-loop : tie.MeasureT-loop
 μ-loop rows depth next i₀ l₀ i l = i
 
-smaller-requires : tie.Need-smaller-requires Inv-loop μ-loop
-smaller-requires c κs = search needs
+lesser-requires : tie.Need-lesser-requires Inv-loop μ-loop
+lesser-requires c κs = search needs
 
 loop-holds : tie.Need-loop-holds Inv-loop μ-loop
 loop-holds c =
     let a = c .before .before .args in
     let least : min (a .depth) (length (a .rows .now) / 16) ≡ min (a .depth) (length (rowsIn (a .rows .now))) = ap (min (a .depth)) (sym (count (a .rows .now))) in
-    (omega (arith, c .smaller .ensures), none-found (a .next) (a .depth) (rowsIn (a .rows .now)) ∙ ap (found (a .next) (a .depth) (rowsIn (a .rows .now))) (sym (c .smaller .ensures ∙ least)))
+    (omega (arith, c .lesser .ensures), none-found (a .next) (a .depth) (rowsIn (a .rows .now)) ∙ ap (found (a .next) (a .depth) (rowsIn (a .rows .now))) (sym (c .lesser .ensures ∙ least)))
 
 sub-i : tie.Need-sub-i Inv-loop μ-loop
 sub-i c = omega arith
@@ -61,7 +61,7 @@ look-spec =
     (tie.spec
     Inv-loop
     μ-loop
-    smaller-requires
+    lesser-requires
     loop-holds
     sub-i
     row-at-requires

@@ -1,9 +1,6 @@
 -- `words::put_counted` meets its contract: turned away, nothing is put; else the counts are.
-use mathlib.Core.Path.{refl, sym, ap, _∙_}
+use mathlib.Core.Path.{refl, sym, _∙_}
 use Rattle.layout.proofs.Tests.{not-both}
-use Rattle.optable.specs.Counted.{releasedBy}
-use Rattle.entry.specs.WordCalls.{countsIn}
-use Rattle.entry.proofs.Calling.{counts-read}
 use borrow.Author.Needs.{needs}
 use Rattle.entry.proofs.words.put_counted.Statement.{statement}
 use Rattle.entry.proofs.words.put_counted.Tie as tie
@@ -13,14 +10,13 @@ returns c = record { reply = refl; turned-away = λ e. refl; counts-are = λ e. 
 
 returns-2 : tie.Need-returns-2
 returns-2 c =
-    let released = c .before in
-    let left = released .before .before .before in
+    let left = c .before .before in
     record {
       reply = refl;
       turned-away = λ e. absurd (not-both e (sym (left .before .away .ensures) ∙ left .if1 .left));
-      counts-are = λ e. ap countsIn (c .put-counts .ensures) ∙ counts-read (released .released .result) ∙ released .released .ensures ∙ ap (releasedBy _) (released .before .accepted .ensures);
+      counts-are = λ e. c .put-counts .ensures;
     }
 
 pub put-counted-spec : {M : Type 1} → statement M
 put-counted-spec =
-    tie.close (tie.spec (λ c κs. search needs) returns (λ c κs. search needs) (λ c κs. search needs) (λ c κs. search needs) returns-2)
+    tie.close (tie.spec (λ c κs. search needs) returns (λ c κs. search needs) returns-2)

@@ -24,7 +24,11 @@ returns-2 c =
     let left = put .before .before .before in
     let a = left .before .before .before .args in
     record {
-      counted = c .put-counted .ensures;
+      counted = record {
+        reply = refl;
+        turned-away = λ e. absurd (not-both e (sym (left .before .away .ensures) ∙ left .if1 .left));
+        counts-are = λ e. c .put-counts .ensures;
+      };
       turned-away = λ e. absurd (not-both e (sym (left .before .away .ensures) ∙ left .if1 .left));
       row-is = λ e. put .put-row .ensures .0;
       others = λ i apart. ap (λ ws. getD ws i 0) (put .put-row .ensures .1) ∙ put-others (a .at) (a .t .row) (a .rows .now) i apart;

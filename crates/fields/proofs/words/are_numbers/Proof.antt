@@ -28,12 +28,6 @@ returns c =
     let told = c .before .before .number-in .ensures in
     sym (head .loop .inv ∙ numbers-stop (head .loop .k) text (omega arith) (rw (← told) (not-true _ (c .if1 .taken))))
 
-sub-k : tie.Need-sub-k Inv-loop μ-loop
-sub-k c = omega arith
-
-loop-less : tie.Need-loop-less Inv-loop μ-loop
-loop-less c = omega arith
-
 loop-again : tie.Need-loop-again Inv-loop μ-loop
 loop-again c =
     let head = c .before .before .before .before in
@@ -55,7 +49,7 @@ are-numbers-spec =
     loop-holds
     number-in-requires
     returns
-    sub-k
-    loop-less
+    (λ c. omega arith)
+    (λ c. omega arith)
     loop-again
     returns-2)

@@ -20,38 +20,23 @@ returns c = sym (other-length _ _ (λ e. c .if1 .taken e))
 loop-holds : tie.Need-loop-holds Inv-loop μ-loop
 loop-holds c = (omega arith, omega arith, refl)
 
-shared-slice-read-if2 : tie.Need-shared-slice-read-if2 Inv-loop μ-loop
-shared-slice-read-if2 c = omega arith
-
-shared-slice-read-if2-2 : tie.Need-shared-slice-read-if2-2 Inv-loop μ-loop
-shared-slice-read-if2-2 c = omega arith
-
 returns-2 : tie.Need-returns-2 Inv-loop μ-loop
 returns-2 c =
     let head = c .before .before .before .before in
-    let a = head .before .before .args .a .now in
-    let b = head .before .before .args .b .now in
-    sym (head .loop .inv .2 ∙ unlike a b (head .loop .i) (omega arith) (omega arith) (c .if2 .taken))
-
-add-i : tie.Need-add-i Inv-loop μ-loop
-add-i c = omega arith
-
-loop-less : tie.Need-loop-less Inv-loop μ-loop
-loop-less c = omega arith
+    let args = head .before .before .args in
+    sym (head .loop .inv .2 ∙ unlike (args .a .now) (args .b .now) (head .loop .i) (omega arith) (omega arith) (c .if2 .taken))
 
 loop-again : tie.Need-loop-again Inv-loop μ-loop
 loop-again c =
     let head = c .before .before .before .before in
-    let a = head .before .before .args .a .now in
-    let b = head .before .before .args .b .now in
-    (omega arith, omega arith, head .loop .inv .2 ∙ alike a b (head .loop .i) (omega arith) (omega arith) (c .if2 .left))
+    let args = head .before .before .args in
+    (omega arith, omega arith, head .loop .inv .2 ∙ alike (args .a .now) (args .b .now) (head .loop .i) (omega arith) (omega arith) (c .if2 .left))
 
 returns-3 : tie.Need-returns-3 Inv-loop μ-loop
 returns-3 c =
     let head = c .before in
-    let a = head .before .before .args .a .now in
-    let b = head .before .before .args .b .now in
-    sym (head .loop .inv .2 ∙ both-ended a b (head .loop .i) (omega arith) (omega arith))
+    let args = head .before .before .args in
+    sym (head .loop .inv .2 ∙ both-ended (args .a .now) (args .b .now) (head .loop .i) (omega arith) (omega arith))
 
 pub equal-spec : {M : Type 1} → statement M
 equal-spec =
@@ -61,10 +46,10 @@ equal-spec =
     μ-loop
     returns
     loop-holds
-    shared-slice-read-if2
-    shared-slice-read-if2-2
+    (λ c. omega arith)
+    (λ c. omega arith)
     returns-2
-    add-i
-    loop-less
+    (λ c. omega arith)
+    (λ c. omega arith)
     loop-again
     returns-3)

@@ -28,12 +28,12 @@ abbrev μ-loop : tie.MeasureT-loop
 word-requires : tie.Need-word-requires Inv-loop μ-loop
 word-requires c κs = search needs
 
-smaller-requires : tie.Need-smaller-requires Inv-loop μ-loop
-smaller-requires c κs = search needs
+lesser-requires : tie.Need-lesser-requires Inv-loop μ-loop
+lesser-requires c κs = search needs
 
 loop-holds : tie.Need-loop-holds Inv-loop μ-loop
 unfolding settingsIn anyLoose
-loop-holds c = (c .before .word .ensures, c .smaller .ensures, omega arith, λ n free ready owners pool o. refl)
+loop-holds c = (c .before .word .ensures, c .lesser .ensures, omega arith, λ n free ready owners pool o. refl)
 
 mul-row : tie.Need-mul-row Inv-loop μ-loop
 mul-row c = omega arith
@@ -112,7 +112,7 @@ any-loose-spec =
     Inv-loop
     μ-loop
     word-requires
-    smaller-requires
+    lesser-requires
     loop-holds
     mul-row
     array-copy-out-row

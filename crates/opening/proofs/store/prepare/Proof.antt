@@ -15,7 +15,8 @@ use Rattle.model.specs.Memory.{over, storeOpened, freeOpened, readyOpened, owne
 use Rattle.model.specs.Opening.{opens}
 use Rattle.model.proofs.Rules.{numbers-hold, plan-listed, room-holds}
 use Rattle.model.proofs.Opened.{length-up}
-use Rattle.opening.specs.Prepared.{lengthsWith, Prepared}
+use Rattle.memory.specs.Lengths.{lengthsWith}
+use Rattle.opening.specs.Prepared.{Prepared}
 use Rattle.opening.proofs.store.prepare.Statement.{statement}
 use Rattle.opening.proofs.store.prepare.Tie as tie
 

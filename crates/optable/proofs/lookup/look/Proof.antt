@@ -1,4 +1,4 @@
--- `lookup::look` meets its contract: a walk of its MIR by hand, since the borrow checker covers no function over a `&[Row]`. `smaller` says how many rows
+-- `lookup::look` meets its contract: a walk of its MIR by hand, since the borrow checker covers no function over a `&[Row]`. `lesser` says how many rows
 -- are walked; each turn of the loop looks into the slice, reads the row before the index and calls `seen` on it and on what is found so far. The loop's
 -- variant is the index and what is found there (`Turning`), ordered by the index. Of the two callees the proof knows that they meet their contracts.
 use mathlib.Core.Path.{_≡_, refl, sym, _∙_, ap, subst}
@@ -49,11 +49,11 @@ use Rattle.model.specs.declared.Row.{Row}
 use Rattle.model.specs.State.{freed}
 use Rattle.optable.proofs.Called.{comes}
 use Rattle.optable.proofs.Element.{R, ty, val, vals, tells, offset-fits, typed, makes, copy}
-use Rattle.optable.proofs.Least.{Smaller, to-smaller, goes-smaller, smaller-comes}
+use Rattle.optable.proofs.Least.{Lesser, to-lesser, goes-lesser, lesser-comes}
 use Rattle.optable.proofs.Walk.{after}
-use Rattle.optable.proofs.smaller.Symbol as smaller-def
-use Rattle.optable.proofs.smaller.Symbol.{name as #optable·smaller}
-use Rattle.optable.proofs.smaller.Met as smaller-thm
+use Rattle.layout.proofs.lesser.Symbol as lesser-def
+use Rattle.layout.proofs.lesser.Symbol.{name as #layout·lesser}
+use Rattle.layout.proofs.lesser.Met as lesser-thm
 use Rattle.optable.specs.declared.lookup.Looked.{Looked}
 use Rattle.optable.specs.Looked.{seenBy, lookedIn}
 use Rattle.optable.proofs.Found.{L, found-ty, found-val, found-spelt, found-made, found-is, found-makes, found-typed}
@@ -149,7 +149,7 @@ module _ {M : Type 1} (𝓤 : URA M) (H : Heap 𝓤) (A : Atoms 𝓤) (W : Given
   Nearer-wf : WellFounded Nearer
   Nearer-wf = InvImage·wf (λ (i : Passed). i .index) (Nat·lt-wfRel .wf)
 
-  module _ (𝓣 : Tables 𝓤 H) (known-smaller : Triple 𝓤 (𝓣 .C #optable·smaller) (Smaller 𝓤 H A mem run)) (known-seen : Triple 𝓤 (𝓣 .C #lookup·seen) (Seen 𝓤 H A mem run)) (room : Room R n) where
+  module _ (𝓣 : Tables 𝓤 H) (known-lesser : Triple 𝓤 (𝓣 .C #layout·lesser) (Lesser 𝓤 H A mem run)) (known-seen : Triple 𝓤 (𝓣 .C #lookup·seen) (Seen 𝓤 H A mem run)) (room : Room R n) where
     module _ (l₀ l₁ l₂ l₃ l₄ l₅ l₆ l₇ l₈ l₉ l₁₀ : ℕ) where
       abbrev C : Calls 𝓤 H
       C = 𝓣 .C
@@ -265,11 +265,11 @@ module _ {M : Type 1} (𝓤 : URA M) (H : Heap 𝓤) (A : Atoms 𝓤) (W : Given
         pass1 ! (init ! 18 refl (tt, (tt, (record { fits = room .0 }, tt)))) $ pass1 ! (init ! 16 refl (tt, record { fits = depth-fits })) $ pass1 ! (init ! 14 refl (tt, record { fits = next-fits })) $ pass0 ! $
         -- [_10; …; _9; …; _8; …; _7; …; _6; …; _5; …; _4; …; _3; …; _2; …; _1; …; room for _0; …; the token; what rows, depth and next own]
         assigns ! (of-opd ! (load ! (from ! (fld ! refl (stop !))) (look-in ! 18 (sub ! 1 refl (whole !))))) (from ! (stop !)) (init ! 8 refl (tt, record { fits = room .0 })) $
-        -- `smaller` is called
+        -- `lesser` is called
         owned ! usize (Is usize) (uint-makes 𝓤 H A W w64) n (vint w64 n ∷ []) (refl, room .0) $ owned ! usize (Is usize) (uint-makes 𝓤 H A W w64) depth (vint w64 depth ∷ []) (refl, depth-fits) $
-        use2 W (raw (Smaller 𝓤 H A mem run .pre (to-smaller 𝓤 H A mem run depth n))) (goes-smaller 𝓤 H A mem run depth n W) $
-        calls-at ! (fmOf 𝓤 H (W .laws) 𝓣) (Smaller 𝓤 H A mem run) known-smaller (to-smaller 𝓤 H A mem run depth n) (and-then ! (load ! (from ! (stop !)) (look ! 17 refl)) (and-then ! (load ! (from ! (stop !)) (look ! 9 refl)) (no-more !))) (λ v.
-        use1 W (later (‵ (usize .own m (v ∷ [])))) (smaller-comes 𝓤 H A mem run depth n W v) $ await ! tt $ peeks ! usize (Is usize) (shows 𝓤 H A usize) m (v ∷ []) (λ is.
+        use2 W (raw (Lesser 𝓤 H A mem run .pre (to-lesser 𝓤 H A mem run depth n))) (goes-lesser 𝓤 H A mem run depth n W) $
+        calls-at ! (fmOf 𝓤 H (W .laws) 𝓣) (Lesser 𝓤 H A mem run) known-lesser (to-lesser 𝓤 H A mem run depth n) (and-then ! (load ! (from ! (stop !)) (look ! 17 refl)) (and-then ! (load ! (from ! (stop !)) (look ! 9 refl)) (no-more !))) (λ v.
+        use1 W (later (‵ (usize .own m (v ∷ [])))) (lesser-comes 𝓤 H A mem run depth n W v) $ await ! tt $ peeks ! usize (Is usize) (shows 𝓤 H A usize) m (v ∷ []) (λ is.
         land ! (from ! (stop !)) (init ! 13 refl (uint-lawful 𝓤 H A W w64 .typed m _ is .0)) $ rewrite ! 13 (λ (u : Val). ‵ (fat fullShare word l₄ 0 u)) (ap only (is .0)) refl $ drop ! $
         assigns ! (agg ! (and-then ! (false-lit !) (and-then ! (load ! (from ! (stop !)) (look ! 14 refl)) (no-more !)))) (from ! (stop !)) (init ! 10 {τ = found-ty} {b = l₅} {o = 0} refl (tt, (tt, (record { fits = next-fits }, tt)))) $ rewrite ! 10 (λ (u : Val). ‵ (fat fullShare found-ty l₅ 0 u)) (found-made false next) refl $
         -- what is owned is put in front
@@ -278,7 +278,7 @@ module _ {M : Type 1} (𝓤 : URA M) (H : Heap 𝓤) (A : Atoms 𝓤) (W : Given
         keep ! (0 ∷ 2 ∷ 4 ∷ 5 ∷ 6 ∷ 7 ∷ 8 ∷ 9 ∷ 10 ∷ 11 ∷ 12 ∷ 13 ∷ 14 ∷ 15 ∷ 16 ∷ 17 ∷ 18 ∷ 19 ∷ 20 ∷ 21 ∷ 22 ∷ 23 ∷ 24 ∷ 25 ∷ 3 ∷ []) $
         begins l₀ l₁ l₂ l₃ l₄ l₅ l₆ l₇ l₈ l₉ l₁₀)))))))))))))
 
-module _ {M : Type 1} (𝓤 : URA M) (H : Heap 𝓤) (A : Atoms 𝓤) (W : Given 𝓤 H A) (mem : Memory → SProp 𝓤) (run : Routine → Fun 𝓤) (𝓣 : Tables 𝓤 H) (k₁ : Triple 𝓤 (𝓣 .C #optable·smaller) (Smaller 𝓤 H A mem run)) (k₂ : Triple 𝓤 (𝓣 .C #lookup·seen) (Seen 𝓤 H A mem run)) where
+module _ {M : Type 1} (𝓤 : URA M) (H : Heap 𝓤) (A : Atoms 𝓤) (W : Given 𝓤 H A) (mem : Memory → SProp 𝓤) (run : Routine → Fun 𝓤) (𝓣 : Tables 𝓤 H) (k₁ : Triple 𝓤 (𝓣 .C #layout·lesser) (Lesser 𝓤 H A mem run)) (k₂ : Triple 𝓤 (𝓣 .C #lookup·seen) (Seen 𝓤 H A mem run)) where
   self-walks : Walks 𝓤 H A self.ended stayed (WpFn 𝓤 H (𝓣 .C) (𝓣 .Λ) code.function) (self.clauses 𝓤 H A mem run)
   self-walks =
       walked 𝓤 H A self.ended stayed (self.clauses 𝓤 H A mem run) (WpFn 𝓤 H (𝓣 .C) (𝓣 .Λ) code.function) (λ κs. (slice-vals, (uint-vals w64, (uint-vals w64, tt)))) (λ κs. (shr-slice-tells (named 0) (κs .0) R, (uint-tells w64, (uint-tells w64, tt))))
@@ -296,5 +296,5 @@ look-spec 𝓤 H 𝓜 𝓖 𝓡 =
     entered 𝓤 H (tripleOf 𝓤 H (𝓖 .A) self.signature (self.spec 𝓤 H (𝓖 .A) (𝓜 .mem) (𝓡 .run)))
     (tables 𝓤 H 𝓜 𝓡 code.env .C) (tables 𝓤 H 𝓜 𝓡 code.env .Λ) #lookup·look code.function (code.unfolded 𝓤 H 𝓜 𝓡)
     (self-meets 𝓤 H (𝓖 .A) (givenOf 𝓤 H 𝓜 𝓖) (𝓜 .mem) (𝓡 .run) (tablesOf 𝓤 H 𝓜 (tables 𝓤 H 𝓜 𝓡 code.env))
-    (cited 𝓤 H (Smaller 𝓤 H (𝓖 .A) (𝓜 .mem) (𝓡 .run)) 𝓜 𝓡 code.env #optable·smaller smaller-def.routine code.calls-optable·smaller (smaller-thm.met 𝓤 H 𝓜 𝓖 𝓡))
+    (cited 𝓤 H (Lesser 𝓤 H (𝓖 .A) (𝓜 .mem) (𝓡 .run)) 𝓜 𝓡 code.env #layout·lesser lesser-def.routine code.calls-layout·lesser (lesser-thm.met 𝓤 H 𝓜 𝓖 𝓡))
     (cited 𝓤 H (Seen 𝓤 H (𝓖 .A) (𝓜 .mem) (𝓡 .run)) 𝓜 𝓡 code.env #lookup·seen seen-def.routine code.calls-optable·lookup·seen (seen-thm.met 𝓤 H 𝓜 𝓖 𝓡)))

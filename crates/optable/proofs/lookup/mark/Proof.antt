@@ -2,7 +2,7 @@
 use mathlib.Core.Path.{ap, _∙_}
 use Prim.Native.Nat.{ℕ, _+_, _%_, _^_}
 use Rattle.layout.specs.Pick.{pick}
-use Rattle.regionmap.specs.Words.{wrap64}
+use Rattle.regionmap.specs.Found.{wrap64}
 use Rattle.model.specs.declared.Counts.{Counts}
 use Rattle.optable.specs.Looked.{markWrapped}
 use Rattle.optable.proofs.Chosen.{chosen}

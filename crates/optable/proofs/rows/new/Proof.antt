@@ -1,4 +1,4 @@
--- `rows::new` meets its contract: a walk of its MIR by hand, since the borrow checker covers no function over a `&mut [Row]`. `smaller` says how
+-- `rows::new` meets its contract: a walk of its MIR by hand, since the borrow checker covers no function over a `&mut [Row]`. `lesser` says how
 -- many rows are done; each turn of the loop has a freed row of `freed_row`, opens the borrow, stores the row to its cell and closes the borrow.
 -- The loop's variant is the index and the list there, which is the first rows opened up to the index (`Opened`), ordered by what is left to do.
 -- Of the two callees the proof knows that they meet their contracts.
@@ -50,12 +50,12 @@ use Rattle.model.specs.Memory.{rowsOpened}
 use Rattle.optable.proofs.Element.{R, ty, vals, tells, offset-fits, typed}
 use Rattle.optable.proofs.Freed.{FreedRow, to-freed-row, goes-freed-row, freed-row-comes}
 use Rattle.optable.proofs.Opened.{none-opened, opened-length, opened-more}
-use Rattle.optable.proofs.Least.{Smaller, to-smaller, goes-smaller, smaller-comes}
+use Rattle.optable.proofs.Least.{Lesser, to-lesser, goes-lesser, lesser-comes}
 use Rattle.optable.proofs.RowsFacts.{rows-at, Seen, Lent, rows-own}
 use Rattle.optable.proofs.Walk.{after}
-use Rattle.optable.proofs.smaller.Symbol as smaller-def
-use Rattle.optable.proofs.smaller.Symbol.{name as #optable·smaller}
-use Rattle.optable.proofs.smaller.Met as smaller-thm
+use Rattle.layout.proofs.lesser.Symbol as lesser-def
+use Rattle.layout.proofs.lesser.Symbol.{name as #layout·lesser}
+use Rattle.layout.proofs.lesser.Met as lesser-thm
 use Rattle.optable.proofs.freed_row.Symbol as freed-row-def
 use Rattle.optable.proofs.freed_row.Symbol.{name as #optable·freed-row}
 use Rattle.optable.proofs.freed_row.Met as freed-row-thm
@@ -121,7 +121,7 @@ module _ {M : Type 1} (𝓤 : URA M) (H : Heap 𝓤) (A : Atoms 𝓤) (W : Given
   Nearer-wf : WellFounded Nearer
   Nearer-wf = InvImage·wf (λ (i : Passed). m - i .0) (Nat·lt-wfRel .wf)
 
-  module _ (𝓣 : Tables 𝓤 H) (known-smaller : Triple 𝓤 (𝓣 .C #optable·smaller) (Smaller 𝓤 H A mem run)) (known-freed-row : Triple 𝓤 (𝓣 .C #optable·freed-row) (FreedRow 𝓤 H A mem run)) (room : Room R n) where
+  module _ (𝓣 : Tables 𝓤 H) (known-lesser : Triple 𝓤 (𝓣 .C #layout·lesser) (Lesser 𝓤 H A mem run)) (known-freed-row : Triple 𝓤 (𝓣 .C #optable·freed-row) (FreedRow 𝓤 H A mem run)) (room : Room R n) where
     module _ (l₀ l₁ l₂ l₃ l₄ l₅ l₆ l₇ l₈ l₉ : ℕ) where
       abbrev C : Calls 𝓤 H
       C = 𝓣 .C
@@ -203,11 +203,11 @@ module _ {M : Type 1} (𝓤 : URA M) (H : Heap 𝓤) (A : Atoms 𝓤) (W : Given
         pass1 ! (init ! 16 refl (tt, (tt, (record { fits = room .0 }, tt)))) $ pass1 ! (init ! 14 refl (tt, record { fits = depth-fits })) $ pass0 ! $
         -- [_9; …; _8; …; _7; …; _6; …; _5; …; _4; …; _3; …; _2; …; _1; …; room for _0; …; the token; what rows and depth own]
         assigns ! (of-opd ! (load ! (from ! (fld ! refl (stop !))) (look-in ! 16 (sub ! 1 refl (whole !))))) (from ! (stop !)) (init ! 8 refl (tt, record { fits = room .0 })) $
-        -- `smaller` is called
+        -- `lesser` is called
         owned ! usize (Is usize) (uint-makes 𝓤 H A W w64) n (vint w64 n ∷ []) (refl, room .0) $ owned ! usize (Is usize) (uint-makes 𝓤 H A W w64) depth (vint w64 depth ∷ []) (refl, depth-fits) $
-        use2 W (raw (Smaller 𝓤 H A mem run .pre (to-smaller 𝓤 H A mem run depth n))) (goes-smaller 𝓤 H A mem run depth n W) $
-        calls-at ! (fmOf 𝓤 H (W .laws) 𝓣) (Smaller 𝓤 H A mem run) known-smaller (to-smaller 𝓤 H A mem run depth n) (and-then ! (load ! (from ! (stop !)) (look ! 15 refl)) (and-then ! (load ! (from ! (stop !)) (look ! 9 refl)) (no-more !))) (λ v.
-        use1 W (later (‵ (usize .own m (v ∷ [])))) (smaller-comes 𝓤 H A mem run depth n W v) $ await ! tt $
+        use2 W (raw (Lesser 𝓤 H A mem run .pre (to-lesser 𝓤 H A mem run depth n))) (goes-lesser 𝓤 H A mem run depth n W) $
+        calls-at ! (fmOf 𝓤 H (W .laws) 𝓣) (Lesser 𝓤 H A mem run) known-lesser (to-lesser 𝓤 H A mem run depth n) (and-then ! (load ! (from ! (stop !)) (look ! 15 refl)) (and-then ! (load ! (from ! (stop !)) (look ! 9 refl)) (no-more !))) (λ v.
+        use1 W (later (‵ (usize .own m (v ∷ [])))) (lesser-comes 𝓤 H A mem run depth n W v) $ await ! tt $
         peeks ! usize (Is usize) (shows 𝓤 H A usize) m (v ∷ []) (λ is.
         land ! (from ! (stop !)) (init ! 13 refl (uint-lawful 𝓤 H A W w64 .typed m _ is .0)) $ rewrite ! 13 (λ (u : Val). ‵ (fat fullShare word l₃ 0 u)) (ap only (is .0)) refl $ drop ! $
         assigns ! (of-opd ! (lit ! tt)) (from ! (stop !)) (init ! 10 refl (tt, record { fits = lit< tt })) $
@@ -218,11 +218,11 @@ module _ {M : Type 1} (𝓤 : URA M) (H : Heap 𝓤) (A : Atoms 𝓤) (W : Given
         first ! $ blocks ! $ loops ! 𝓣 Nearer Nearer-wf (At l₀ l₁ l₂ l₃ l₄ l₅ l₆ l₇ l₈ l₉) (turns l₀ l₁ l₂ l₃ l₄ l₅ l₆ l₇ l₈ l₉) (0, (ys, (zero-le, sym (none-opened ys))))))))))))))))
 
 module _ {M : Type 1} (𝓤 : URA M) (H : Heap 𝓤) (A : Atoms 𝓤) (W : Given 𝓤 H A) (mem : Memory → SProp 𝓤) (run : Routine → Fun 𝓤) where
-  self-walks : (𝓣 : Tables 𝓤 H) → Triple 𝓤 (𝓣 .C #optable·smaller) (Smaller 𝓤 H A mem run) → Triple 𝓤 (𝓣 .C #optable·freed-row) (FreedRow 𝓤 H A mem run) → Walks 𝓤 H A self.ended stayed (WpFn 𝓤 H (𝓣 .C) (𝓣 .Λ) code.function) (self.clauses 𝓤 H A mem run)
+  self-walks : (𝓣 : Tables 𝓤 H) → Triple 𝓤 (𝓣 .C #layout·lesser) (Lesser 𝓤 H A mem run) → Triple 𝓤 (𝓣 .C #optable·freed-row) (FreedRow 𝓤 H A mem run) → Walks 𝓤 H A self.ended stayed (WpFn 𝓤 H (𝓣 .C) (𝓣 .Λ) code.function) (self.clauses 𝓤 H A mem run)
   self-walks 𝓣 k₁ k₂ = walked 𝓤 H A self.ended stayed (self.clauses 𝓤 H A mem run) (WpFn 𝓤 H (𝓣 .C) (𝓣 .Λ) code.function) (λ κs. (slice-vals, (uint-vals w64, tt))) (λ κs. (mut-slice-tells (named 0) (κs .0) R, (uint-tells w64, tt)))
       (λ κs qs bounds a g are. via 𝓤 _ (fst∗ 𝓤 _ (emp 𝓤)) (walk 𝓤 H A W mem run (κs .0) (qs .0) (a .0 .ptr .0) (a .0 .ptr .1) (a .0 .name) (a .0 .now) (a .1 .0) (are .1 .0 .1) 𝓣 k₁ k₂ (are .0 .0 .1)))
 
-self-meets : {M : Type 1} (𝓤 : URA M) (H : Heap 𝓤) (A : Atoms 𝓤) → Given 𝓤 H A → (mem : Memory → SProp 𝓤) (run : Routine → Fun 𝓤) (𝓣 : Tables 𝓤 H) → Triple 𝓤 (𝓣 .C #optable·smaller) (Smaller 𝓤 H A mem run) → Triple 𝓤 (𝓣 .C #optable·freed-row) (FreedRow 𝓤 H A mem run)
+self-meets : {M : Type 1} (𝓤 : URA M) (H : Heap 𝓤) (A : Atoms 𝓤) → Given 𝓤 H A → (mem : Memory → SProp 𝓤) (run : Routine → Fun 𝓤) (𝓣 : Tables 𝓤 H) → Triple 𝓤 (𝓣 .C #layout·lesser) (Lesser 𝓤 H A mem run) → Triple 𝓤 (𝓣 .C #optable·freed-row) (FreedRow 𝓤 H A mem run)
     → Meets 𝓤 H A self.signature (WpFn 𝓤 H (𝓣 .C) (𝓣 .Λ) code.function) (self.spec 𝓤 H A mem run)
 self-meets 𝓤 H A W mem run 𝓣 k₁ k₂ =
     walk-meets 𝓤 H A self.ended stayed W (goes-slice 𝓤 H A W 1 0 tt (plain (λ _. R)), (goes-none 𝓤 H A W 1 (λ _. usize) yes (λ κs x f. refl), tt)) (self.clauses 𝓤 H A mem run)
@@ -234,5 +234,5 @@ new-spec 𝓤 H 𝓜 𝓖 𝓡 =
     entered 𝓤 H (tripleOf 𝓤 H (𝓖 .A) self.signature (self.spec 𝓤 H (𝓖 .A) (𝓜 .mem) (𝓡 .run)))
     (tables 𝓤 H 𝓜 𝓡 code.env .C) (tables 𝓤 H 𝓜 𝓡 code.env .Λ) #optable·new code.function (code.unfolded 𝓤 H 𝓜 𝓡)
     (self-meets 𝓤 H (𝓖 .A) (givenOf 𝓤 H 𝓜 𝓖) (𝓜 .mem) (𝓡 .run) (tablesOf 𝓤 H 𝓜 (tables 𝓤 H 𝓜 𝓡 code.env))
-    (cited 𝓤 H (Smaller 𝓤 H (𝓖 .A) (𝓜 .mem) (𝓡 .run)) 𝓜 𝓡 code.env #optable·smaller smaller-def.routine code.calls-optable·smaller (smaller-thm.met 𝓤 H 𝓜 𝓖 𝓡))
+    (cited 𝓤 H (Lesser 𝓤 H (𝓖 .A) (𝓜 .mem) (𝓡 .run)) 𝓜 𝓡 code.env #layout·lesser lesser-def.routine code.calls-layout·lesser (lesser-thm.met 𝓤 H 𝓜 𝓖 𝓡))
     (cited 𝓤 H (FreedRow 𝓤 H (𝓖 .A) (𝓜 .mem) (𝓡 .run)) 𝓜 𝓡 code.env #optable·freed-row freed-row-def.routine code.calls-optable·freed-row (freed-row-thm.met 𝓤 H 𝓜 𝓖 𝓡)))

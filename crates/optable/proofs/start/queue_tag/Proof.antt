@@ -1,5 +1,5 @@
 -- `start::queue_tag` meets its contract, by that of the wrapping sum.
-use Rattle.regionmap.specs.Words.{wrap64}
+use Rattle.regionmap.specs.Found.{wrap64}
 use Rattle.step.specs.Step.{queueTag}
 use borrow.Author.Needs.{needs}
 use Rattle.optable.proofs.start.queue_tag.Statement.{statement}

@@ -1,5 +1,4 @@
 -- `calls::counted` meets its contract: the row of its word is the one that fits, and its parts are the row's.
-use mathlib.Core.Path.{_∙_}
 use Rattle.parser.proofs.Table.{count-line}
 use borrow.Author.Needs.{needs}
 use Rattle.parser.proofs.calls.counted.Statement.{statement}
@@ -7,11 +6,7 @@ use Rattle.parser.proofs.calls.counted.Tie as tie
 
 returns : tie.Need-returns
 returns c =
-    let fit = c .before in
-    let start = fit .before .before .before .before in
-    c .checked .ensures
-    ∙ rw (fit .value-in2 .ensures, fit .before .value-in .ensures, fit .before .before .are-numbers .ensures)
-    (count-line (start .args .text .now) (start .pre .0) (start .pre .1))
+    let start = c .before .before .before .before .before in cc (count-line (start .args .text .now) (start .pre .0) (start .pre .1))
 
 pub counted-spec : {M : Type 1} → statement M
 counted-spec =

@@ -21,7 +21,9 @@ returns-2 c =
     (poisoned-line (fit .before .before .before .before .before .before .args .text .now) (fit .before .before .before .before .before .before .pre .0) (fit .before .before .before .before .before .before .pre .1) (sym (c .before .before .is-word2 .ensures) ∙ c .before .if2 .taken))
 
 returns-3 : tie.Need-returns-3
-returns-3 c = no-failure (c .before .before .before .before .before .before .before .before .before .before .before .before .args .text .now) (c .before .before .before .before .before .before .before .before .before .before .before .before .pre .0) (c .before .before .before .before .before .before .before .before .before .before .before .before .pre .1) (sym (c .before .before .before .before .is-word .ensures) ∙ c .before .before .before .if1 .left) (sym (c .before .is-word2 .ensures) ∙ c .if2 .left)
+returns-3 c =
+    let start = c .before .before .before .before .before .before .before .before .before .before .before .before in
+    no-failure (start .args .text .now) (start .pre .0) (start .pre .1) (sym (c .before .before .before .before .is-word .ensures) ∙ c .before .before .before .if1 .left) (sym (c .before .is-word2 .ensures) ∙ c .if2 .left)
 
 pub failed-spec : {M : Type 1} → statement M
 failed-spec =

@@ -1,5 +1,4 @@
 -- `calls::flushed` meets its contract: the row of its word is the one that fits, and its parts are the row's.
-use mathlib.Core.Path.{_∙_}
 use Rattle.parser.proofs.Table.{need-line}
 use borrow.Author.Needs.{needs}
 use Rattle.parser.proofs.calls.flushed.Statement.{statement}
@@ -7,11 +6,7 @@ use Rattle.parser.proofs.calls.flushed.Tie as tie
 
 returns : tie.Need-returns
 returns c =
-    let fit = c .before in
-    let start = fit .before .before .before .before .before .before .before .before .before in
-    c .checked .ensures
-    ∙ rw (fit .both2 .ensures, fit .before .is-word .ensures, fit .before .before .before .both .ensures, fit .before .before .before .before .is-number .ensures, fit .before .before .before .before .before .are-numbers .ensures, fit .before .before .before .before .before .before .value-in2 .ensures, fit .before .before .before .before .before .before .before .value-in .ensures)
-    (need-line (start .args .text .now) (start .pre .0) (start .pre .1))
+    let start = c .before .before .before .before .before .before .before .before .before .before in cc (need-line (start .args .text .now) (start .pre .0) (start .pre .1))
 
 pub flushed-spec : {M : Type 1} → statement M
 flushed-spec =

@@ -7,22 +7,17 @@ use Rattle.parser.proofs.calls.marked.Tie as tie
 
 returns : tie.Need-returns
 returns c =
-    let fit = c .before .before .before .before in
-    let start = fit .before .before .before .before .before .before in
-    c .checked .ensures
-    ∙ rw (fit .flag-in .ensures, fit .before .value-in .ensures, fit .before .before .both .ensures, fit .before .before .before .is-flag .ensures, fit .before .before .before .before .are-numbers .ensures)
-    (ro-line (start .args .text .now) (start .pre .0) (sym (c .before .before .is-word .ensures) ∙ c .before .if1 .taken))
+    let start = c .before .before .before .before .before .before .before .before .before .before in cc (ro-line (start .args .text .now) (start .pre .0) (sym (c .before .before .is-word .ensures) ∙ c .before .if1 .taken))
 
 returns-2 : tie.Need-returns-2
 returns-2 c =
-    let fit = c .before .before .before .before .before .before .before in
-    let start = fit .before .before .before .before .before .before in
-    c .checked2 .ensures
-    ∙ rw (fit .flag-in .ensures, fit .before .value-in .ensures, fit .before .before .both .ensures, fit .before .before .before .is-flag .ensures, fit .before .before .before .before .are-numbers .ensures)
-    (force-line (start .args .text .now) (start .pre .0) (sym (c .before .before .is-word2 .ensures) ∙ c .before .if2 .taken))
+    let start = c .before .before .before .before .before .before .before .before .before .before .before .before .before in
+    cc (force-line (start .args .text .now) (start .pre .0) (sym (c .before .before .is-word2 .ensures) ∙ c .before .if2 .taken))
 
 returns-3 : tie.Need-returns-3
-returns-3 c = no-two (c .before .before .before .before .before .before .before .before .before .before .before .before .args .text .now) (c .before .before .before .before .before .before .before .before .before .before .before .before .pre .0) (c .before .before .before .before .before .before .before .before .before .before .before .before .pre .1 .0) (c .before .before .before .before .before .before .before .before .before .before .before .before .pre .1 .1) (c .before .before .before .before .before .before .before .before .before .before .before .before .pre .1 .2) (sym (c .before .before .before .before .is-word .ensures) ∙ c .before .before .before .if1 .left) (sym (c .before .is-word2 .ensures) ∙ c .if2 .left)
+returns-3 c =
+    let start = c .before .before .before .before .before .before .before .before .before .before .before .before in
+    no-two (start .args .text .now) (start .pre .0) (start .pre .1 .0) (start .pre .1 .1) (start .pre .1 .2) (sym (c .before .before .before .before .is-word .ensures) ∙ c .before .before .before .if1 .left) (sym (c .before .is-word2 .ensures) ∙ c .if2 .left)
 
 pub marked-spec : {M : Type 1} → statement M
 marked-spec =

@@ -1,5 +1,4 @@
 -- `calls::poisoned` meets its contract: the row of its word is the one that fits, and its parts are the row's.
-use mathlib.Core.Path.{_∙_}
 use Rattle.parser.proofs.Table.{poison-line}
 use borrow.Author.Needs.{needs}
 use Rattle.parser.proofs.calls.poisoned.Statement.{statement}
@@ -7,11 +6,7 @@ use Rattle.parser.proofs.calls.poisoned.Tie as tie
 
 returns : tie.Need-returns
 returns c =
-    let fit = c .before in
-    let start = fit .before .before .before in
-    c .checked .ensures
-    ∙ rw (fit .cause-in .ensures, fit .before .is-cause .ensures)
-    (poison-line (start .args .text .now) (start .pre .0) (start .pre .1))
+    let start = c .before .before .before .before in cc (poison-line (start .args .text .now) (start .pre .0) (start .pre .1))
 
 pub poisoned-spec : {M : Type 1} → statement M
 poisoned-spec = tie.close (tie.spec (λ c κs. search needs) (λ c κs. search needs) (λ c κs. search needs) returns)

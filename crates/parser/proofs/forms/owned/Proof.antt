@@ -1,5 +1,4 @@
 -- `forms::owned` meets its contract: its parts are those of the definition.
-use mathlib.Core.Path.{_∙_}
 use Rattle.parser.specs.Said.{ownIn}
 use borrow.Author.Needs.{needs}
 use Rattle.parser.proofs.forms.owned.Statement.{statement}
@@ -7,10 +6,7 @@ use Rattle.parser.proofs.forms.owned.Tie as tie
 
 returns : tie.Need-returns
 unfolding ownIn
-returns c =
-    let fields = c .before in
-    c .checked .ensures
-    ∙ rw (fields .value-in4 .ensures, fields .before .flag-in .ensures, fields .before .before .value-in3 .ensures, fields .before .before .before .value-in2 .ensures, fields .before .before .before .before .value-in .ensures, fields .before .before .before .before .before .both .ensures, fields .before .before .before .before .before .before .is-flag .ensures, fields .before .before .before .before .before .before .before .are-numbers .ensures)
+returns c = cc
 
 pub owned-spec : {M : Type 1} → statement M
 owned-spec =

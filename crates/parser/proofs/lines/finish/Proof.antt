@@ -1,28 +1,40 @@
--- `lines::finish` meets its contract: a longer line goes by its first byte, any other is read whole (`Whole`).
+-- `lines::finish` meets its contract: each arm knows the line's front, by which the line is read (the reader's `Kept`).
 use mathlib.Core.Path.{sym, _∙_}
 use native.Mathlib.Omega.{arith}
-use borrow.Author.Tests.{eq-eqb, ne-eqb}
-use Rattle.layout.specs.Pick.{pick}
-use Rattle.parser.proofs.Whole.{cut-short, read-whole}
+use Rattle.fields.proofs.Kept.{read-by, fronted}
+use Rattle.parser.specs.declared.forms.Said.the-variants.{Comment, Bad}
+use Rattle.parser.specs.Said.{saidIn, saidRead}
 use borrow.Author.Needs.{needs}
 use Rattle.parser.proofs.lines.finish.Statement.{statement}
 use Rattle.parser.proofs.lines.finish.Tie as tie
 
+said-front-requires : tie.Need-said-front-requires
+said-front-requires c κs =
+    let within = c .before .before .before .before .front-of .ensures .0 _ (c .before .before .kept .given .1) in omega arith
+
 returns : tie.Need-returns
-unfolding pick
-returns c = λ bytes k. sym (rw (eq-eqb _ 35 (c .if2 .taken)) at (cut-short k (c .before .before .if1 .taken)))
+unfolding saidRead read-by
+returns c = λ bytes k. fronted k saidIn Comment Bad (sym (c .enum-told .given .1) ∙ c .before .before .front-of .ensures .1 bytes k)
 
 returns-2 : tie.Need-returns-2
-unfolding pick
-returns-2 c = λ bytes k. sym (rw (ne-eqb _ 35 (c .if2 .left)) at (cut-short k (c .before .before .if1 .taken)))
+unfolding saidRead read-by
+returns-2 c = λ bytes k. fronted k saidIn Comment Bad (sym (c .enum-told2 .given .1) ∙ c .before .before .front-of .ensures .1 bytes k)
 
 returns-3 : tie.Need-returns-3
-returns-3 c = λ bytes k. absurd (omega (arith, k .count))
-
-returns-4 : tie.Need-returns-4
-returns-4 c = λ bytes k. c .said-front .ensures ∙ read-whole k (c .before .before .before .before .if1 .left)
+unfolding saidRead read-by
+returns-3 c = λ bytes k.
+    c .said-front .ensures
+    ∙ fronted k saidIn Comment Bad (sym (c .before .before .before .kept .given .1) ∙ c .before .before .before .before .before .front-of .ensures .1 bytes k)
 
 pub finish-spec : {M : Type 1} → statement M
 finish-spec =
     tie.close
-    (tie.spec (λ c. search needs) returns returns-2 returns-3 (λ c κs. search needs) returns-4)
+    (tie.spec
+    (λ c κs. search needs)
+    (λ c. search needs)
+    (λ c. search needs)
+    (λ c. search needs)
+    said-front-requires
+    returns
+    returns-2
+    returns-3)

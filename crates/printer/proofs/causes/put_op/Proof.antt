@@ -1,5 +1,4 @@
 -- `causes::put_op` meets its contract: each arm knows which it is, and there the definition computes.
-use mathlib.Core.Path.{_∙_}
 use native.Mathlib.Omega.{arith}
 use Rattle.printer.specs.Parts.{opText}
 use borrow.Author.Needs.{needs}
@@ -8,23 +7,19 @@ use Rattle.printer.proofs.causes.put_op.Tie as tie
 
 returns : tie.Need-returns
 unfolding opText
-returns c =
-    let put = c .before .before .put .ensures in (omega arith, (put .1 .0, put .1 .1 ∙ rw (c .before .before .before .before .before .enum-told .given .1)))
+returns c = rw (c .before .before .before .before .before .enum-told .given .1) (omega arith, c .before .before .put .ensures .1)
 
 returns-2 : tie.Need-returns-2
 unfolding opText
-returns-2 c =
-    let put = c .before .before .put2 .ensures in (omega arith, (put .1 .0, put .1 .1 ∙ rw (c .before .before .before .before .before .enum-told2 .given .1)))
+returns-2 c = rw (c .before .before .before .before .before .enum-told2 .given .1) (omega arith, c .before .before .put2 .ensures .1)
 
 returns-3 : tie.Need-returns-3
 unfolding opText
-returns-3 c =
-    let put = c .before .before .put3 .ensures in (omega arith, (put .1 .0, put .1 .1 ∙ rw (c .before .before .before .before .before .enum-told3 .given .1)))
+returns-3 c = rw (c .before .before .before .before .before .enum-told3 .given .1) (omega arith, c .before .before .put3 .ensures .1)
 
 returns-4 : tie.Need-returns-4
 unfolding opText
-returns-4 c =
-    let put = c .before .before .put4 .ensures in (omega arith, (put .1 .0, put .1 .1 ∙ rw (c .before .before .before .before .before .enum-told4 .given .1)))
+returns-4 c = rw (c .before .before .before .before .before .enum-told4 .given .1) (omega arith, c .before .before .put4 .ensures .1)
 
 pub put-op-spec : {M : Type 1} → statement M
 put-op-spec =

@@ -15,7 +15,7 @@ slice-aggregate-listed c =
     let rows = made .before .before .args .rows in
     let long : length rows ≡ 64 = omega arith in
     let all : length (made .generations .result) ≡ 64 = ap length (made .generations .ensures) ∙ length-map rows generationOf ∙ long in
-    let most = c .before .before .before .smaller .ensures in
+    let most = c .before .before .before .lesser .ensures in
     sym (length-take-le _ (made .generations .result) (omega (arith, all, most)))
 
 rows-text-requires : tie.Need-rows-text-requires
@@ -23,8 +23,8 @@ rows-text-requires c κs =
     let cut = c .before .before in
     let start = cut .before .before .before .before .before .before in
     let long : length (start .args .out .now) ≡ 4096 = omega arith in
-    let m = most-64 _ _ (cut .before .before .before .smaller .ensures) in
-    let d = end-64 _ _ _ (cut .before .smaller3 .result) m (cut .before .before .smaller2 .ensures) in
+    let m = most-64 _ _ (cut .before .before .before .lesser .ensures) in
+    let d = end-64 _ _ _ (cut .before .lesser3 .result) m (cut .before .before .lesser2 .ensures) in
     simp (length-take, length-drop) (fits _ _ _ _ _ m d long)
 
 returns : tie.Need-returns
@@ -33,7 +33,7 @@ returns c =
     let made = cut .before .before .before .before in
     let a = made .before .before .args in
     let most = c .rows-text .ensures .0 in
-    (omega (arith, most), λ few. c .rows-text .ensures .1 ∙ listed (a .depth) (a .live) (a .rows) (a .free .now) (made .generations .result) _ _ _ few (made .generations .ensures) (cut .before .before .before .smaller .ensures) (cut .before .before .smaller2 .ensures) (cut .before .smaller3 .ensures))
+    (omega (arith, most), λ few. c .rows-text .ensures .1 ∙ listed (a .depth) (a .live) (a .rows) (a .free .now) (made .generations .result) _ _ _ few (made .generations .ensures) (cut .before .before .before .lesser .ensures) (cut .before .before .lesser2 .ensures) (cut .before .lesser3 .ensures))
 
 pub say-rows-spec : {M : Type 1} → statement M
 say-rows-spec =

@@ -1,5 +1,5 @@
 -- `refusals::put_context` meets its contract: each arm knows which it is, and there the definition computes.
-use mathlib.Core.Path.{refl, sym, _∙_}
+use mathlib.Core.Path.{refl, sym}
 use native.Mathlib.Omega.{arith}
 use mathlib.Core.List.{append-nil}
 use lib.ListN.{take}
@@ -16,17 +16,8 @@ returns c =
     let start = c .before .before .before in
     (omega arith, (refl, rw (c .enum-told .given .1) (sym (append-nil (take (start .args .at) (start .args .out .now))))))
 
-returns-2 : tie.Need-returns-2
-unfolding contextText contextValues
-returns-2 c =
-    let put = c .before .before .put-region .ensures in (omega arith, (put .1 .0, put .1 .1 ∙ rw (c .before .before .before .before .before .context .given .1)))
-
-returns-3 : tie.Need-returns-3
-unfolding contextText contextValues rangeText
-returns-3 c =
-    let put = c .before .before .put-range .ensures in (omega arith, (put .1 .0, put .1 .1 ∙ rw (c .before .before .before .before .before .before .context2 .given .1)))
-
 pub put-context-spec : {M : Type 1} → statement M
+unfolding contextText contextValues rangeText
 put-context-spec =
     tie.close
     (tie.spec
@@ -38,6 +29,6 @@ put-context-spec =
     (λ c κs. search needs)
     returns
     (λ c. search needs)
-    returns-2
+    (λ c. rw (c .before .before .before .before .before .context .given .1) (omega arith, c .before .before .put-region .ensures .1))
     (λ c. search needs)
-    returns-3)
+    (λ c. rw (c .before .before .before .before .before .before .context2 .given .1) (omega arith, c .before .before .put-range .ensures .1)))

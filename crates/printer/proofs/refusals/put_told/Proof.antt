@@ -1,5 +1,4 @@
 -- `refusals::put_told` meets its contract: each arm knows which it is, and there the definition computes.
-use mathlib.Core.Path.{_∙_}
 use native.Mathlib.Omega.{arith}
 use Rattle.completion.specs.Told.{toldValues}
 use Rattle.printer.specs.Contexts.{contextText}
@@ -8,14 +7,12 @@ use Rattle.printer.proofs.refusals.put_told.Statement.{statement}
 use Rattle.printer.proofs.refusals.put_told.Tie as tie
 
 returns : tie.Need-returns
-unfolding toldValues
-returns c =
-    let put = c .before .before .put-context .ensures in (omega arith, (put .1 .0, put .1 .1 ∙ rw (c .before .before .before .before .before .told .given .1)))
+unfolding toldValues contextText
+returns c = rw (c .before .before .before .before .before .told .given .1) (omega arith, c .before .before .put-context .ensures .1)
 
 returns-2 : tie.Need-returns-2
 unfolding toldValues contextText
-returns-2 c =
-    let put = c .before .before .put-caused .ensures in (omega arith, (put .1 .0, put .1 .1 ∙ rw (c .before .before .before .before .before .told2 .given .1)))
+returns-2 c = rw (c .before .before .before .before .before .told2 .given .1) (omega arith, c .before .before .put-caused .ensures .1)
 
 pub put-told-spec : {M : Type 1} → statement M
 put-told-spec =

@@ -1,20 +1,27 @@
--- `tickets::put_durable` meets its contract: the second part stands behind the first.
+-- `tickets::put_durable` meets its contract: of the whole the second part stands behind the first.
+use mathlib.Core.Path.{_∙_}
+use mathlib.Core.List.{append-assoc, append-nil}
 use native.Mathlib.Omega.{arith}
 use lib.ListN.{take}
-use Rattle.printer.proofs.Joined.{joined}
-use mathlib.Core.List.{_++_}
-use Rattle.printer.specs.Parts.{receiptWord, needText}
-use Rattle.printer.specs.Tickets.{ticketText, receiptText}
+use Rattle.layout.specs.Pick.{pick}
+use Rattle.printer.proofs.Bits.{bit-set}
 use borrow.Author.Needs.{needs}
 use Rattle.printer.proofs.tickets.put_durable.Statement.{statement}
 use Rattle.printer.proofs.tickets.put_durable.Tie as tie
 
+put-receipt-requires : tie.Need-put-receipt-requires
+put-receipt-requires c κs = omega (arith, bit-set (c .before .if1 .taken))
+
 returns : tie.Need-returns
+unfolding pick
 returns c =
-    let second = c .before .before .put-receipt .ensures in
-    let first = c .before .before .before .before .before .before .put-ticketed .ensures in
-    let start = c .before .before .before .before .before .before .before .before .before .before in
-    (omega arith, (omega arith, joined (take (start .args .at) (start .args .out .now)) (needText receiptWord (start .args .t) (start .args .d .need) ++ ticketText (start .args .t)) (receiptText (start .args .d)) (second .1 .1) (first .1 .1)))
+    let taken = c .before .before .before .before .if1 .taken in
+    let args = c .before .before .before .before .before .before .before .before .before .before .before .args in
+    (omega (arith, bit-set taken), (omega arith, c .before .before .put-receipt .ensures .1 .1 ∙ rw (c .before .before .before .before .before .before .before .put-ticketed .ensures .1 .1, append-assoc (take (args .at) (args .out .now)), taken)))
+
+returns-2 : tie.Need-returns-2
+unfolding pick
+returns-2 c = (omega arith, (omega arith, c .before .before .before .put-ticketed .ensures .1 .1 ∙ rw (c .if1 .left, append-nil, append-nil)))
 
 pub put-durable-spec : {M : Type 1} → statement M
 put-durable-spec =
@@ -22,6 +29,8 @@ put-durable-spec =
     (tie.spec
     (λ c. search needs)
     (λ c κs. search needs)
-    (λ c κs. search needs)
+    put-receipt-requires
     (λ c. search needs)
-    returns)
+    returns
+    (λ c. search needs)
+    returns-2)

@@ -1,20 +1,14 @@
 -- `tickets::put_unknown` meets its contract: the second part stands behind the first.
+use mathlib.Core.Path.{_∙_}
+use mathlib.Core.List.{append-assoc}
 use native.Mathlib.Omega.{arith}
-use lib.ListN.{take}
-use Rattle.printer.proofs.Joined.{joined}
-use Rattle.printer.specs.Parts.{unknownWord, rangeText, causeText}
 use borrow.Author.Needs.{needs}
 use Rattle.printer.proofs.tickets.put_unknown.Statement.{statement}
 use Rattle.printer.proofs.tickets.put_unknown.Tie as tie
 
 returns : tie.Need-returns
 returns c =
-    let second = c .before .before .put-cause .ensures in
-    let first = c .before .before .before .before .before .before .put-range .ensures in
-    let start = c .before .before .before .before .before .before .before .before .before .before in
-    (omega arith, (omega arith, joined (take (start .args .at) (start .args .out .now)) (rangeText unknownWord (start .args .range)) (causeText (start .args .cause)) (second .1 .1) (first .1 .1)))
+    (omega arith, (omega arith, c .before .before .put-cause .ensures .1 .1 ∙ rw (c .before .before .before .before .before .before .put-place .ensures .1 .1, append-assoc)))
 
 pub put-unknown-spec : {M : Type 1} → statement M
-put-unknown-spec =
-    tie.close
-    (tie.spec (λ c. search needs) (λ c κs. search needs) (λ c κs. search needs) (λ c. search needs) returns)
+put-unknown-spec = tie.close (tie.spec (λ c κs. search needs) (λ c κs. search needs) (λ c. search needs) returns)

@@ -3,7 +3,8 @@ use mathlib.Core.Path.{ap, _∙_}
 use Prim.Native.Nat.{_+_, _-_}
 use Rattle.regionmap.specs.declared.FoundRun.{FoundRun}
 use Rattle.regionmap.specs.Map.{place}
-use Rattle.regionmap.specs.Words.{offsetOf, foundOf, wrap64}
+use Rattle.regionmap.specs.Words.{offsetOf}
+use Rattle.regionmap.specs.Found.{foundOf, wrap64}
 use borrow.Author.Needs.{needs}
 use Rattle.regionmap.proofs.pieces.locate.Statement.{statement}
 use Rattle.regionmap.proofs.pieces.locate.Tie as tie

@@ -1,7 +1,8 @@
 -- `pieces::offset_in` meets its contract, by that of the wrapping sum.
 use mathlib.Core.Path.{ap}
 use borrow.Author.Needs.{needs}
-use Rattle.regionmap.specs.Words.{wrap64, offsetOf}
+use Rattle.regionmap.specs.Words.{offsetOf}
+use Rattle.regionmap.specs.Found.{wrap64}
 use Rattle.regionmap.proofs.pieces.offset_in.Statement.{statement}
 use Rattle.regionmap.proofs.pieces.offset_in.Tie as tie
 

@@ -3,7 +3,8 @@ use mathlib.Core.Path.{_≡_, ap, ap₂, _∙_}
 use Prim.Native.Nat.{ℕ, _+_, _-_, min}
 use Rattle.regionmap.specs.declared.FoundRun.{FoundRun}
 use Rattle.regionmap.specs.Map.{place, runLeft, runEnd, pieceSize}
-use Rattle.regionmap.specs.Words.{offsetOf, foundOf, wrap64, pieceFound}
+use Rattle.regionmap.specs.Words.{offsetOf}
+use Rattle.regionmap.specs.Found.{foundOf, wrap64, pieceFound}
 use borrow.Author.Needs.{needs}
 use Rattle.regionmap.proofs.pieces.piece_at.Statement.{statement}
 use Rattle.regionmap.proofs.pieces.piece_at.Tie as tie

@@ -3,7 +3,8 @@ use mathlib.Core.Path.{ap, ap₂, _∙_}
 use Prim.Native.Nat.{min}
 use Rattle.regionmap.specs.declared.FoundRun.{FoundRun}
 use Rattle.regionmap.specs.Map.{runEnd}
-use Rattle.regionmap.specs.Words.{positionOf, foundOf}
+use Rattle.regionmap.specs.Words.{positionOf}
+use Rattle.regionmap.specs.Found.{foundOf}
 use borrow.Author.Needs.{needs}
 use Rattle.regionmap.proofs.pieces.run_end.Statement.{statement}
 use Rattle.regionmap.proofs.pieces.run_end.Tie as tie

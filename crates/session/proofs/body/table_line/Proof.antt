@@ -11,8 +11,8 @@ slice-aggregate-answer : tie.Need-slice-aggregate-answer
 slice-aggregate-answer c =
     let cut = c .before .before .before .before .before in
     let a = cut .before .before .before .before .before .before .before .args in
-    let e = cut .smaller .ensures in
-    sym (length-take-le (cut .smaller .result) (a .pool .now) (omega (arith, e)))
+    let e = cut .lesser .ensures in
+    sym (length-take-le (cut .lesser .result) (a .pool .now) (omega (arith, e)))
 
 returns : tie.Need-returns
 returns c =
@@ -20,7 +20,7 @@ returns c =
     let cut = ran .before .before .before .before .before .before .before in
     let found = cut .before in
     let a = ran .before .before .before .before .before .before .before .before .before .before .before .before .before .before .args in
-    (λ bytes k plan. part-answered (a .n) _ _ _ (found .finish .ensures bytes k) (a .number) (a .flushes) (a .counts) (a .rows) (a .store .now) (a .free .now) (a .ready .now) (a .owners .now) (a .pool .now) plan (cut .smaller .ensures) _ _ _ _ _ _ _ _ _ (ran .answer .ensures .0), ran .answer .ensures .1)
+    (λ bytes k plan. part-answered (a .n) _ _ _ (found .finish .ensures bytes k) (a .number) (a .flushes) (a .counts) (a .rows) (a .store .now) (a .free .now) (a .ready .now) (a .owners .now) (a .pool .now) plan (cut .lesser .ensures) _ _ _ _ _ _ _ _ _ (ran .answer .ensures .0), ran .answer .ensures .1)
 
 pub table-line-spec : {M : Type 1} → statement M
 table-line-spec =

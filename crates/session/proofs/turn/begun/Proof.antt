@@ -7,7 +7,7 @@ use Rattle.session.proofs.turn.begun.Statement.{statement}
 use Rattle.session.proofs.turn.begun.Tie as tie
 
 returns : tie.Need-returns
-returns c = (refl, (ap (λ (row : Row). replicate 64 row) (c .freed-row .ensures), (refl, (refl, refl))))
+returns c = (refl, (ap (λ (row : Row). replicate 64 row) (c .before .freed-row .ensures), (c .fresh .ensures, (refl, refl))))
 
 pub begun-spec : {M : Type 1} → statement M
-begun-spec = tie.close (tie.spec (λ c κs. search needs) returns)
+begun-spec = tie.close (tie.spec (λ c κs. search needs) (λ c κs. search needs) returns)

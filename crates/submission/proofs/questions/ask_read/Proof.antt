@@ -1,15 +1,8 @@
 -- `questions::ask_read` meets its contract: what it reads of the words is what the state holds (Asking).
-use mathlib.Core.Path.{_≡_, ap, _∙_}
-use mathlib.Core.List.{map}
-use Prim.Native.Nat.{_≤_, _<_}
+use mathlib.Core.Path.{_∙_}
 use native.Mathlib.Omega.{arith}
-use lib.ListN.{getD, take}
-use Rattle.model.specs.declared.Opening.{Opening}
-use Rattle.model.specs.State.{Owner.lost}
-use Rattle.model.specs.Memory.{ownerIn}
-use Rattle.step.specs.Questions.{isHost, firstNo, readQuestions}
-use Rattle.submission.specs.Asks.{readList}
-use Rattle.submission.proofs.Asking.{read-off, foreign, read-asked}
+use Rattle.step.specs.Questions.{readQuestions}
+use Rattle.submission.proofs.Asking.{foreign, read-asked}
 use borrow.Author.Needs.{needs}
 use Rattle.submission.proofs.questions.ask_read.Statement.{statement}
 use Rattle.submission.proofs.questions.ask_read.Tie as tie
@@ -21,16 +14,15 @@ returns-2 : tie.Need-returns-2
 unfolding readQuestions
 returns-2 c =
     let a = c .before .before .before .before .before .before .before .args in
-    λ s r. foreign s (a .counts) (a .store .now) (a .owners .now) (a .q) _ r (read-off (c .before .before .before .settings .ensures (r .words)) (λ o. o .regions ≤ a .q .handle) (c .if2 .taken))
+    λ s r. foreign s (a .counts) (a .store .now) (a .owners .now) (a .q) _ r _ (c .before .before .before .settings .ensures (r .words)) (c .if2 .taken)
 
 returns-3 : tie.Need-returns-3
 returns-3 c =
     let a = c .before .before .before .before .before .before .before .before .before .before .args in
     λ s r.
     c .read-answers .ensures
-    ∙ ap (λ (o : Opening). firstNo (readList o (a .counts) (c .before .before .region-at .result) (c .before .held .result) (a .q))) (c .before .before .before .before .before .before .settings .ensures (r .words))
-    ∙ read-asked s (a .counts) (a .store .now) (a .owners .now) (a .q) r (c .before .before .region-at .result) (c .before .held .result)
-    (record { below = read-off (c .before .before .before .before .before .before .settings .ensures (r .words)) (λ o. a .q .handle < o .regions) (c .before .before .before .if2 .left); region = c .before .before .region-at .ensures; holder = read-off (c .before .before .before .before .before .before .settings .ensures (r .words)) (λ o. c .before .held .result ≡ isHost (getD (map ownerIn (take (o .buffers) (a .owners .now))) (a .q .buffer) lost)) (c .before .held .ensures) })
+    ∙ read-asked s (a .counts) (a .store .now) (a .owners .now) (a .q) r (c .before .before .before .before .before .before .settings .result) (c .before .before .region-at .result) (c .before .held .result)
+    (record { settings = c .before .before .before .before .before .before .settings .ensures (r .words); below = c .before .before .before .if2 .left; region = c .before .before .region-at .ensures; holder = c .before .held .ensures })
 
 pub ask-read-spec : {M : Type 1} → statement M
 ask-read-spec =

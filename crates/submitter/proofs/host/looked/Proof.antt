@@ -13,7 +13,7 @@ use Rattle.submitter.proofs.host.looked.Tie as tie
 use Rattle.submitter.proofs.host.looked.Reads as reads
 use Rattle.submitter.proofs.host.looked.Lts as lts
 use Rattle.optable.proofs.lookup.seen.Reads as seen-reads
-use Rattle.optable.proofs.smaller.Reads as smaller-reads
+use Rattle.layout.proofs.lesser.Reads as lesser-reads
 
 abbrev Inv-loop : tie.InvT-loop
 Inv-loop depth next rows i₀ l₀ i l = (i ≤ min depth 64) × (l ≡ found next depth rows i)
@@ -21,14 +21,14 @@ Inv-loop depth next rows i₀ l₀ i l = (i ≤ min depth 64) × (l ≡ found ne
 abbrev μ-loop : tie.MeasureT-loop
 μ-loop depth next rows i₀ l₀ i l = i
 
-smaller-requires : tie.Need-smaller-requires Inv-loop μ-loop
-smaller-requires c κs = search needs
+lesser-requires : tie.Need-lesser-requires Inv-loop μ-loop
+lesser-requires c κs = search needs
 
 loop-holds : tie.Need-loop-holds Inv-loop μ-loop
 loop-holds c =
     let a = c .before .args in
     let long : length (a .t1) ≡ 64 = omega arith in
-    let e : c .smaller .result ≡ min (a .depth) 64 = c .smaller .ensures in
+    let e : c .lesser .result ≡ min (a .depth) 64 = c .lesser .ensures in
     (omega arith, none-found (a .next) (a .depth) (a .t1) ∙ ap (found (a .next) (a .depth) (a .t1)) (ap (min (a .depth)) long ∙ sym e))
 
 sub-i : tie.Need-sub-i Inv-loop μ-loop
@@ -72,7 +72,7 @@ looked-spec =
     (tie.spec
     Inv-loop
     μ-loop
-    smaller-requires
+    lesser-requires
     loop-holds
     sub-i
     mul-row

@@ -43,10 +43,10 @@ use Rattle.model.specs.declared.Opening.{Opening}
 use Rattle.model.specs.declared.Row.{Row}
 use Rattle.model.proofs.Opening.Laws as OpeningLaws
 use Rattle.optable.specs.Called.{lentOf}
-use Rattle.submitter.specs.Open.{OpensTo}
-use Rattle.submitter.specs.declared.Opened.{Opened}
-use Rattle.submitter.proofs.Opened as Replied
-use Rattle.submitter.proofs.Opened.Laws as RepliedLaws
+use Rattle.opening.specs.Opened.{OpensTo}
+use Rattle.opening.specs.declared.Opened.{Opened}
+use Rattle.opening.proofs.Opened as Replied
+use Rattle.opening.proofs.Opened.Laws as RepliedLaws
 use Rattle.submitter.proofs.Slices.{Words, count}
 use Rattle.submitter.proofs.Values.{Opening-row, Opened-row, val, vals, tells, opening-typed, opened-typed}
 use Rattle.submitter.proofs.open as opens
