@@ -3,3 +3,4 @@ pub mod Walk
 pub mod Steps
 pub mod CardRuns
 pub mod Opens
+pub mod Admitted

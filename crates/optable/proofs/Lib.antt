@@ -13,3 +13,4 @@ pub mod Chosen
 pub mod Found
 pub mod Turning
 pub mod Looking
+pub mod Held

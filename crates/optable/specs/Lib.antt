@@ -3,3 +3,4 @@ pub mod Counted
 pub mod Claimed
 pub mod Called
 pub mod Looked
+pub mod Held

@@ -5,3 +5,4 @@ pub mod Passing
 pub mod Slices
 pub mod Values
 pub mod Lending
+pub mod Holding
