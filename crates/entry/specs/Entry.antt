@@ -1,16 +1,18 @@
 -- "contracts give values": what each function that a host in C or Rust calls leaves in what the host lends and in `out`. The promises are those of a
 -- host that lends records (WholeRows: OpensWhole, CallsWhole, LooksWhole); `out` gets the reply's words (abi's ReplyWords: replyWords). A code that
--- names nothing changes nothing, and gets a case of its own.
+-- names nothing changes nothing, and gets a case of its own, behind 13.
 use mathlib.Core.Path.{_≡_}
 use mathlib.Core.Option.{Option, none, some}
 use mathlib.Core.List.{List, [], _∷_}
 use Prim.Native.Nat.{ℕ}
+use Rattle.layout.specs.Pick.{pick}
+use Rattle.completion.specs.declared.Refusal.the-variants as Refusal
 use Rattle.completion.specs.declared.Reply.{Reply}
 use Rattle.completion.specs.declared.Reply.the-variants as Reply
 use Rattle.model.specs.declared.{Call.Call, Lookup.Lookup, Opening.Opening}
 use Rattle.opening.specs.declared.Opened.{Opened}
 use Rattle.opening.specs.declared.Opened.the-variants as Opened
-use Rattle.entry.specs.WholeRows.{OpensWhole, CallsWhole, LooksWhole}
+use Rattle.entry.specs.WholeRows.{OpensWhole, CallsWhole, LooksWhole, fitsIn}
 use Rattle.abi.specs.ReplyWords.{replyWords, unknownWords}
 
 -- what a host lends
@@ -34,10 +36,16 @@ pub record CallsOut (call : Call) (p p′ : Parts) (out : List ℕ) : Type 0 whe
       reply (p′ .counts) (p′ .rows) (p′ .store) (p′ .free) (p′ .ready) (p′ .owners) (p′ .pool)
   pub out-is : out ≡ replyWords reply
 
+-- "A later call with another length of row memory or pool gets 13 first.": also one whose code names nothing; in the opening's lengths that gets a
+-- case of its own
+unfoldable pub namelessWords : Parts → List ℕ
+namelessWords p =
+    pick (fitsIn (p .rows) (p .store) (p .free) (p .ready) (p .owners) (p .pool)) unknownWords (replyWords (Reply.No Refusal.Unfit))
+
 -- what is asked for: a call, or nothing
 unfoldable pub AnswersOut : Option Call → Parts → Parts → List ℕ → Type 0
 AnswersOut (some call) p p′ out = CallsOut call p p′ out
-AnswersOut none p p′ out = (p′ ≡ p) × (out ≡ unknownWords)
+AnswersOut none p p′ out = (p′ ≡ p) × (out ≡ namelessWords p)
 
 -- a lookup: it changes nothing
 pub record LooksOut (x : Lookup) (p : Parts) (out : List ℕ) : Type 0 where

@@ -10,11 +10,12 @@ pub mod wholerows;
 pub mod words;
 
 ghost use mathlib.Core.Path.{_≡_};
+ghost use mathlib.Core.List.{[]};
 ghost use Rattle.iobuf.specs.Turn.{turned};
 ghost use Rattle.model.specs.Memory.{settingsIn};
 ghost use Rattle.arrival.specs.Arrived.{arrivedCall};
 ghost use Rattle.abi.specs.Asked.{requestIn, answerAsked, flushedAsked, gateAsked, poisonAsked};
-ghost use Rattle.entry.specs.Entry.{partsOf, CallsOut, AnswersOut, LooksOut, OpensOut};
+ghost use Rattle.entry.specs.Entry.{partsOf, namelessWords, CallsOut, AnswersOut, LooksOut, OpensOut};
 ghost use Rattle.entry.specs.Settings.{settingCall};
 ghost use Rattle.model.specs.declared.Call.the-variants as Call;
 use crate::settings::Setting;
@@ -23,6 +24,7 @@ use abi::codes::CauseForm;
 use abi::codes::FlushedForm;
 use abi::codes::GateForm;
 use arrival::Arrived;
+use completion::Refusal;
 use completion::Reply;
 use model::Lookup;
 use model::Request;
@@ -111,6 +113,26 @@ fn set(
 {
     let reply = crate::settings::set(what, counts, rows, store, free, ready, owners, pool);
     abi::replies::put_reply(reply, out);
+}
+
+// That of a code that names nothing: 13 first, as everywhere; the counts are not asked for.
+fn nameless(
+    rows: &[u64],
+    store: &[u64],
+    free: &[u64],
+    ready: &[u64],
+    owners: &[u64],
+    pool: &[u8],
+    out: &mut [u64; 17],
+)
+    ensures { λ _. ⌜ now (out .exit) ≡ namelessWords (partsOf [] (now (rows .entry)) (now (store .entry))
+        (now (free .entry)) (now (ready .entry)) (now (owners .entry)) (now (pool .entry))) ⌝ }
+{
+    if crate::wholerows::fits(rows, store, free, ready, owners, pool) {
+        abi::replies::put_unknown(out);
+        return;
+    }
+    abi::replies::put_whole(Reply::No(Refusal::Unfit), out);
 }
 
 // Opens a table in what is lent (Store::submitter). The opening's 13 numbers are block, depth, lifetime, card, buffers, capacity, read-only, flush
@@ -231,7 +253,7 @@ pub extern "C" fn table_answer(
             pool,
             out,
         ),
-        AnswerForm::Unknown => abi::replies::put_unknown(out),
+        AnswerForm::Unknown => nameless(rows, store, free, ready, owners, pool, out),
     }
 }
 
@@ -272,7 +294,7 @@ pub extern "C" fn table_flushed(
             pool,
             out,
         ),
-        FlushedForm::Unknown => abi::replies::put_unknown(out),
+        FlushedForm::Unknown => nameless(rows, store, free, ready, owners, pool, out),
     }
 }
 
@@ -329,7 +351,7 @@ pub extern "C" fn table_set_gate(
             pool,
             out,
         ),
-        GateForm::Unknown => abi::replies::put_unknown(out),
+        GateForm::Unknown => nameless(rows, store, free, ready, owners, pool, out),
     }
 }
 
@@ -412,7 +434,7 @@ pub extern "C" fn table_report_poison(
             pool,
             out,
         ),
-        CauseForm::Unknown => abi::replies::put_unknown(out),
+        CauseForm::Unknown => nameless(rows, store, free, ready, owners, pool, out),
     }
 }
 

@@ -4,7 +4,7 @@ use mathlib.Core.Option.{none}
 use Rattle.abi.specs.declared.codes.FlushedForm.the-variants.{Unknown}
 use Rattle.arrival.specs.Arrived.{arrivedCall}
 use Rattle.abi.specs.Asked.{flushedForm, flushing}
-use Rattle.entry.specs.Entry.{AnswersOut}
+use Rattle.entry.specs.Entry.{AnswersOut, namelessWords}
 use Rattle.entry.proofs.Forms.{by-form}
 use borrow.Author.Needs.{needs}
 use Rattle.entry.proofs.table_flushed.Statement.{statement}
@@ -20,12 +20,12 @@ returns c =
     by-form (flushing (a .qtag)) (form .result) (flushedForm (a .form) (a .need) (a .op) (a .has) (a .raw)) (form .ensures) _ (ap (flushing (a .qtag)) (named .named .given .1)) _ _ _ (did .arrived .ensures)
 
 returns-2 : tie.Need-returns-2
-unfolding AnswersOut flushing
+unfolding AnswersOut namelessWords flushing
 returns-2 c =
-    let form = c .before .before .before .before .flushed-form in
-    let a = c .before .before .before .before .before .before .before .before .before .before .before .args in
+    let form = c .before .before .before .before .before .before .before .before .before .before .flushed-form in
+    let a = c .before .before .before .before .before .before .before .before .before .before .before .before .before .before .before .before .before .args in
     let is : form .result ≡ Unknown = search needs in
-    by-form (flushing (a .qtag)) (form .result) (flushedForm (a .form) (a .need) (a .op) (a .has) (a .raw)) (form .ensures) none (ap (flushing (a .qtag)) is) _ _ _ (refl, c .put-unknown .ensures)
+    by-form (flushing (a .qtag)) (form .result) (flushedForm (a .form) (a .need) (a .op) (a .has) (a .raw)) (form .ensures) none (ap (flushing (a .qtag)) is) _ _ _ (refl, c .nameless .ensures)
 
 pub table-flushed-spec : {M : Type 1} → statement M
 table-flushed-spec =
@@ -43,4 +43,10 @@ table-flushed-spec =
     (λ c. search needs)
     (λ c. search needs)
     returns
+    (λ c. search needs)
+    (λ c. search needs)
+    (λ c. search needs)
+    (λ c. search needs)
+    (λ c. search needs)
+    (λ c. search needs)
     returns-2)

@@ -3,7 +3,7 @@ use mathlib.Core.Path.{_≡_, refl, ap}
 use mathlib.Core.Option.{none}
 use Rattle.abi.specs.declared.codes.CauseForm.the-variants.{Unknown}
 use Rattle.abi.specs.Asked.{causeForm, poisoning}
-use Rattle.entry.specs.Entry.{AnswersOut}
+use Rattle.entry.specs.Entry.{AnswersOut, namelessWords}
 use Rattle.entry.proofs.Forms.{by-form}
 use borrow.Author.Needs.{needs}
 use Rattle.entry.proofs.table_report_poison.Statement.{statement}
@@ -19,12 +19,12 @@ returns c =
     by-form poisoning (form .result) (causeForm (a .op) (a .has) (a .raw)) (form .ensures) _ (ap poisoning (named .named .given .1)) _ _ _ (did .set .ensures)
 
 returns-2 : tie.Need-returns-2
-unfolding AnswersOut poisoning
+unfolding AnswersOut namelessWords poisoning
 returns-2 c =
-    let form = c .before .before .before .before .cause-form in
-    let a = c .before .before .before .before .before .before .before .before .before .before .before .args in
+    let form = c .before .before .before .before .before .before .before .before .before .before .cause-form in
+    let a = c .before .before .before .before .before .before .before .before .before .before .before .before .before .before .before .before .before .args in
     let is : form .result ≡ Unknown = search needs in
-    by-form poisoning (form .result) (causeForm (a .op) (a .has) (a .raw)) (form .ensures) none (ap poisoning is) _ _ _ (refl, c .put-unknown .ensures)
+    by-form poisoning (form .result) (causeForm (a .op) (a .has) (a .raw)) (form .ensures) none (ap poisoning is) _ _ _ (refl, c .nameless .ensures)
 
 pub table-report-poison-spec : {M : Type 1} → statement M
 table-report-poison-spec =
@@ -42,4 +42,10 @@ table-report-poison-spec =
     (λ c. search needs)
     (λ c. search needs)
     returns
+    (λ c. search needs)
+    (λ c. search needs)
+    (λ c. search needs)
+    (λ c. search needs)
+    (λ c. search needs)
+    (λ c. search needs)
     returns-2)
