@@ -5,3 +5,4 @@ pub mod Fitting
 pub mod Each
 pub mod EntryOpening
 pub mod Forms
+pub mod Holding

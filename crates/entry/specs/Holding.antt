@@ -3,16 +3,16 @@
 use mathlib.Core.Path.{_≡_}
 use mathlib.Core.Logic.{_≢_, _⊎_}
 use mathlib.Core.Bool.{Bool, true, false}
-use mathlib.Core.Option.{Option, none, some}
+use mathlib.Core.Option.{none, some}
 use mathlib.Core.List.{List, [], _∷_, _++_}
 use Prim.Native.Nat.{ℕ, _/_, _%_, _<_}
 use lib.ListN.{length, drop}
 use lib.Dec.{eqb}
 use Rattle.layout.specs.Pick.{pick}
 use Rattle.completion.specs.declared.Refusal.the-variants as Refusal
-use Rattle.completion.specs.declared.{Completion.Completion, Reply.Reply}
+use Rattle.completion.specs.declared.Completion.{Completion}
 use Rattle.completion.specs.declared.Reply.the-variants as Reply
-use Rattle.model.specs.declared.{Opening.Opening, Lengths.Lengths, Call.Call, Lookup.Lookup}
+use Rattle.model.specs.declared.{Opening.Opening, Lengths.Lengths}
 use Rattle.model.specs.State.{State, liveRows}
 use Rattle.model.specs.Opening.{HEAD}
 use Rattle.model.specs.Memory.{Lent, lengthsIn, stateIn}
@@ -47,15 +47,16 @@ partsWith p pool = partsOf (p .counts) (p .rows) (p .store) (p .free) (p .ready)
 
 -- ---- one call of an export
 
--- what an export asks for: a call, or nothing, where its code names nothing; or a lookup
+-- what an export asks for: a call or a lookup, or nothing, where its code names nothing
 pub data Export : Type 0 where
-  asks : Option Call → Export
-  looks : Lookup → Export
+  makes : Made → Export
+  nameless : Export
 
 -- what it leaves in what it is lent and in `out` (Entry); a lookup changes nothing
 unfoldable pub Returns : Export → Parts → Parts → List ℕ → Type 0
-Returns (asks call) p p′ out = AnswersOut call p p′ out
-Returns (looks x) p p′ out = LooksOut x p out × (p′ ≡ p)
+Returns (makes (calls call)) p p′ out = AnswersOut (some call) p p′ out
+Returns (makes (looks x)) p p′ out = LooksOut x p out × (p′ ≡ p)
+Returns nameless p p′ out = AnswersOut none p p′ out
 
 -- the lengths of what is lent, the rows' in words
 abbrev pub wordLengths : Parts → Lengths
@@ -117,9 +118,8 @@ heldAfter p (u ∷ us) = heldAfter (u .held) us
 
 -- the history that they are: nothing of a code that names nothing
 unfoldable pub eventsFor : Export → List ℕ → Lengths → List Event
-eventsFor (asks none) pool ls = []
-eventsFor (asks (some call)) pool ls = event pool ls (calls call) ∷ []
-eventsFor (looks x) pool ls = event pool ls (looks x) ∷ []
+eventsFor (makes m) pool ls = event pool ls m ∷ []
+eventsFor nameless pool ls = []
 
 abbrev pub eventsOf : Turn → List Event
 eventsOf u = eventsFor (u .export) (u .leaves) (lengthsLent (u .lent))
@@ -130,9 +130,8 @@ historyOf (u ∷ us) = eventsOf u ++ historyOf us
 
 -- what `out` gets: the words of the step's reply; of a code that names nothing a case of its own, but 13 first
 unfoldable pub outFor : State → Export → List ℕ → Lengths → List ℕ
-outFor s (asks none) pool ls = pick (eqLengths ls (s .lengths)) unknownWords (replyWords (Reply.No Refusal.Unfit))
-outFor s (asks (some call)) pool ls = replyWords (replyTo s (event pool ls (calls call)))
-outFor s (looks x) pool ls = replyWords (replyTo s (event pool ls (looks x)))
+outFor s (makes m) pool ls = replyWords (replyTo s (event pool ls m))
+outFor s nameless pool ls = pick (eqLengths ls (s .lengths)) unknownWords (replyWords (Reply.No Refusal.Unfit))
 
 unfoldable pub OutsAre : State → List Turn → Type 0
 OutsAre s [] = Unit {0}
@@ -157,9 +156,8 @@ HostHolds = (o : Opening) (plan : List ℕ) (p p₀ : Parts) (out : List ℕ) �
 
 -- what brings something to the operation under the queue tag t
 unfoldable pub bringsTo : ℕ → Export → Bool
-bringsTo t (asks none) = false
-bringsTo t (asks (some call)) = isBrought (brought t (calls call))
-bringsTo t (looks x) = false
+bringsTo t (makes m) = isBrought (brought t m)
+bringsTo t nameless = false
 
 -- the completions that a call adds behind those that were ready, in the words
 abbrev pub addedTo : Parts → Parts → List Completion
