@@ -9,25 +9,29 @@ use lib.Seq.{take-append-seam}
 use Rattle.layout.specs.Pick.{pick}
 use Rattle.model.specs.declared.Opening.{Opening}
 use Rattle.model.specs.State.{fresh}
+use Rattle.model.specs.declared.Lengths.{Lengths}
 use Rattle.model.specs.Memory.{Lent, lengthsOf, openedLent, lentAfter}
 use Rattle.model.specs.Opening.{opens}
 use Rattle.optable.specs.Called.{lentOf}
+use Rattle.optable.specs.Held.{Holds, startAt}
+use Rattle.optable.proofs.Held.{held-laws}
+use Rattle.step.specs.Run.{Event, Start}
 use Rattle.hostfill.specs.MayFill.{Open}
 use Rattle.parser.specs.declared.preamble.OpenLine.{OpenLine}
-use Rattle.parser.specs.declared.preamble.OpenLine.the-variants.{Comment, Open as opens-with, Region, Start, Bad}
+use Rattle.parser.specs.declared.preamble.OpenLine.the-variants.{Comment, Open as opens-with, Region, Start as starts, Bad}
 use Rattle.parser.specs.Openings.{openLineRead}
 use Rattle.parser.specs.Said.{saidRead}
 use Rattle.session.specs.declared.start.Started.{Started}
 use Rattle.session.specs.declared.start.Started.the-variants.{Table as opened, Refused as broken, TooLarge}
 use Rattle.session.specs.Start.{keeps, lentFor, opensIn, startedAs}
+use Rattle.session.specs.Asking.{Held, heldOf}
 use Rattle.session.specs.declared.Stage.{Stage}
 use Rattle.session.specs.declared.Stage.the-variants.{Before, Planned, Table, Refused, Over}
 use Rattle.session.specs.Unopened.{Stood, beforeLine, withRegion, lentOpened, startLine, plannedLine}
-use Rattle.session.specs.Opened.{partOf, joined}
+use Rattle.session.specs.Opened.{partOf, joined, TableLine}
 use Rattle.session.specs.Lines.{LineAt}
-use Rattle.tracelaws.specs.Laws.{StandsAt, Stands, TraceLaws}
-use Rattle.tracelaws.proofs.Tables.{answers-kept}
-use Rattle.tracelaws.proofs.Openings.{opened-open}
+use Rattle.tracelaws.specs.Laws.{lineEvents, Leaves, Reached, StandsAt, Stands, TraceLaws}
+use Rattle.tracelaws.proofs.Tables.{is-open, leaves}
 use Rattle.tracelaws.proofs.Names.{own-names}
 
 -- the part and the rest of a pool, cut again where they were joined
@@ -47,7 +51,7 @@ unfolding beforeLine StandsAt
 before-stands Comment n s = tt
 before-stands (opens-with o) n s = tt
 before-stands Region n s = tt
-before-stands Start n s = tt
+before-stands starts n s = tt
 before-stands Bad n s = tt
 
 opens-if : (t u : Bool) → opened ≡ pick t opened (pick u TooLarge broken) → t ≡ true
@@ -56,15 +60,24 @@ opens-if true u e = refl
 opens-if false true e = absurd (let z : _≡_ {A = ℕ} 0 1 = cc in omega arith)
 opens-if false false e = absurd (let z : _≡_ {A = ℕ} 0 1 = cc in omega arith)
 
+long : (l : Lent) → length (l .pool) ≡ lengthsOf l .pool
+unfolding lengthsOf
+long l = refl
+
+-- the pool that was lent is what is lent of it afterwards
+kept-pool : (o : Opening) (s : Stood) (t : Bool) → pick t (openedLent o (s .plan) (lentFor o (s .lent))) (lentFor o (s .lent)) .pool ≡ take (length (lentFor o (s .lent) .pool)) (s .lent .pool)
+unfolding pick openedLent lentFor
+kept-pool o s true = sym (front (o .buffers * o .capacity) (s .lent .pool))
+kept-pool o s false = sym (front (o .buffers * o .capacity) (s .lent .pool))
+
 start-stands : (r : Started) (o : Opening) (s : Stood) → r ≡ startedAs o (s .plan) (s .lent) → Stands (startLine r o s .stood)
 unfolding startLine StandsAt startedAs opensIn lentOpened lentAfter partOf lentFor openedLent pick
 start-stands opened o s e =
     let l : Lent = lentFor o (s .lent) in
     let ok = opens-if (opens o (s .plan) (lengthsOf l)) (keeps o (s .plan)) e in
-    subst (Open fresh)
-    (sym
-    (λ j. let l′ = pick (ok j) (openedLent o (s .plan) l) l in lentOf (l′ .rows) (l′ .store) (l′ .free) (l′ .ready) (l′ .owners) (front (o .buffers * o .capacity) (s .lent .pool) j)))
-    (opened-open o (s .plan) l ok)
+    subst (Reached fresh)
+    (λ j. let l′ = pick (opens o (s .plan) (lengthsOf l)) (openedLent o (s .plan) l) l in lentOf (l′ .rows) (l′ .store) (l′ .free) (l′ .ready) (l′ .owners) (kept-pool o s (opens o (s .plan) (lengthsOf l)) j))
+    (record { start = startAt o (s .plan) l ok (long l); history = []; holds = held-laws .opening o (s .plan) l ok (long l) })
 start-stands broken o s e = tt
 start-stands TooLarge o s e = tt
 
@@ -73,18 +86,38 @@ unfolding plannedLine withRegion StandsAt
 planned-stands Comment o bytes n s = tt
 planned-stands (opens-with x) o bytes n s = tt
 planned-stands Region o bytes n s = tt
-planned-stands Start o bytes n s = start-stands (startedAs o (s .plan) (s .lent)) o s refl
+planned-stands starts o bytes n s = start-stands (startedAs o (s .plan) (s .lent)) o s refl
 planned-stands Bad o bytes n s = tt
 
+-- a line of an open table: its part, and the whole again
+table-law : (x : Start) (h : List Event) (k : ℕ) (bytes : List ℕ) (n : ℕ) (s s′ : Stood) (text : List ℕ) → Holds x h (s .counts) (partOf k s .lent) → TableLine k (saidRead bytes) n s s′ text
+    → Leaves x h (saidRead bytes) (partOf k s) (partOf k s′) text
+unfolding partOf joined lengthsOf
+table-law x h k bytes n s s′ text z t =
+    let d = leaves x h (partOf k s) z (saidRead bytes) n (t .part) text (t .answers) in
+    let same : length (t .part .lent .pool) ≡ length (take k (s .lent .pool)) = ap (λ (a : Lengths). a .pool) (d .holds .lengths ∙ sym (z .lengths)) in
+    let part = t .part in
+    let back : partOf k (joined k part s) ≡ part =
+    λ j. heldOf (part .flushes) (part .counts) (lentOf (part .lent .rows) (part .lent .store) (part .lent .free) (part .lent .ready) (part .lent .owners) (rejoined k (part .lent .pool) (s .lent .pool) same j))
+    in
+    subst (λ (y : Held). Leaves x h (saidRead bytes) (partOf k s) y text) (sym (ap (partOf k) (t .stood) ∙ back)) d
+
+-- the stage stays
+stage-stands : (k : ℕ) (s s′ : Stood) (part : Held) → s′ ≡ joined k part s → Reached (partOf k s′ .counts) (partOf k s′ .lent) → Stands s′
+unfolding joined StandsAt partOf
+stage-stands k s s′ part e i = subst Stands (sym e) (subst (λ (y : Stood). Reached (y .counts) (partOf k y .lent)) e i)
+
+table-stands : (k : ℕ) (bytes : List ℕ) (n : ℕ) (s s′ : Stood) (text : List ℕ) → Reached (s .counts) (partOf k s .lent) → TableLine k (saidRead bytes) n s s′ text → Stands s′
+table-stands k bytes n s s′ text i t =
+    let d = table-law (i .start) (i .history) k bytes n s s′ text (i .holds) t in
+    let there : Reached (partOf k s′ .counts) (partOf k s′ .lent) = record { start = i .start; history = i .history ++ lineEvents (saidRead bytes) (partOf k s); holds = d .holds } in
+    stage-stands k s s′ (t .part) (t .stood) there
+
 line-law : (stage : Stage) (bytes : List ℕ) (n : ℕ) (s s′ : Stood) (text : List ℕ) → StandsAt stage s → LineAt stage bytes n s s′ text → Stands s′
-unfolding LineAt StandsAt partOf joined
+unfolding LineAt StandsAt
 line-law Before bytes n s s′ text i t = subst Stands (sym (t .0)) (before-stands (openLineRead bytes) n s)
 line-law (Planned o) bytes n s s′ text i t = subst Stands (sym (t .0)) (planned-stands (openLineRead bytes) o bytes n s)
-line-law (Table k) bytes n s s′ text i t =
-    let h = t .part in
-    let kept = answers-kept (saidRead bytes) n (partOf k s) h text (t .answers) i in
-    subst Stands (sym (t .stood))
-    (subst (λ (p : List ℕ). Open (h .counts) (lentOf (h .lent .rows) (h .lent .store) (h .lent .free) (h .lent .ready) (h .lent .owners) p)) (sym (rejoined k (h .lent .pool) (s .lent .pool) (kept .1))) (kept .0))
+line-law (Table k) bytes n s s′ text i t = table-stands k bytes n s s′ text i t
 line-law Refused bytes n s s′ text i t = subst Stands (sym (t .0)) tt
 line-law Over bytes n s s′ text i t = subst Stands (sym (t .0)) tt
 
@@ -93,4 +126,10 @@ unfolding StandsAt
 first-law s = tt
 
 pub trace-laws : TraceLaws
-trace-laws = record { first = first-law; own-names = own-names; line = λ bytes n s. line-law (s .stage) bytes n s }
+trace-laws = record {
+  first = first-law;
+  line = λ bytes n s. line-law (s .stage) bytes n s;
+  table = table-law;
+  is-open = λ c l i. is-open (i .start) (i .history) c l (i .holds);
+  own-names = own-names;
+}

@@ -1,5 +1,5 @@
 -- The laws.
+pub mod Filling
 pub mod Tables
-pub mod Openings
 pub mod Laws
 pub mod Names

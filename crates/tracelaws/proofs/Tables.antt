@@ -1,127 +1,135 @@
--- A line of an open table leaves it open, and its pool as long as it was.
+-- A line of an open table, with its history: the call or lookup that it asks for is one event more; what the host does between calls is what it may.
 use mathlib.Core.Path.{_≡_, refl, sym, ap, _∙_, subst}
-use mathlib.Core.Bool.{Bool, true, false, _&&_}
-use mathlib.Core.Logic.{⊎-elim}
-use mathlib.Core.List.{List, [], _∷_, _++_}
-use Prim.Native.Nat.{ℕ, zero, suc, _+_, _*_, _≤_}
+use mathlib.Core.Logic.{inl, inr}
+use mathlib.Core.Bool.{Bool, true, false}
+use mathlib.Core.List.{List, [], _∷_, _++_, append-nil}
+use Prim.Native.Nat.{ℕ, _-_, _<_, _≤_}
 use native.Mathlib.Omega.{arith}
-use lib.ListN.{length, take, drop, length-append, length-take, length-drop}
-use lib.Dec.{leb, eqb}
+use lib.ListN.{length, take, length-take}
+use lib.Seq.{length-take-le}
+use lib.Dec.{eqb}
+use borrow.Author.Tests.{eqb-true}
 use Rattle.layout.specs.Pick.{pick}
-use Rattle.layout.proofs.Tests.{true-or-false, and-left}
+use Rattle.layout.proofs.Tests.{and-left, and-right}
 use Rattle.completion.specs.declared.Reply.{Reply}
-use Rattle.model.specs.declared.Counts.{Counts}
-use Rattle.model.specs.declared.Lengths.{Lengths}
-use Rattle.model.specs.declared.Call.{Call}
+use Rattle.model.specs.declared.{Counts.Counts, Lengths.Lengths, Call.Call, Lookup.Lookup}
+use Rattle.model.specs.declared.Lookup.the-variants as Lookup
 use Rattle.model.specs.State.{State}
-use Rattle.model.specs.Memory.{Lent, lengthsOf, lengthsIn, sameLengths, settingsIn, stateIn}
-use Rattle.step.specs.Step.{step}
-use Rattle.step.specs.Sound.{Sound}
-use Rattle.step.specs.Run.{Made.calls, leave, done}
-use Rattle.step.proofs.Histories.{done-stays}
-use Rattle.step.proofs.Laws.{step-laws}
-use Rattle.optable.specs.Called.{lentOf, CallsTo}
-use Rattle.parser.specs.declared.forms.Said.{Said}
-use Rattle.parser.specs.declared.forms.Said.the-variants.{Comment, Call as callSaid, Own, Count, Look, Len, Fill, Sum, Rows, Bad}
-use Rattle.parser.specs.declared.requests.Asks.{Asks}
-use Rattle.parser.specs.declared.requests.Asks.the-variants.{Nothing, Call as asksCall, Other}
+use Rattle.model.specs.Memory.{Lent, lengthsOf, settingsIn, stateIn}
+use Rattle.step.specs.Step.{bytesAt}
+use Rattle.step.specs.Run.{Made, Made.calls, Made.looks, Event, Start, after, replyTo}
+use Rattle.step.specs.Lists.{HostMay}
+use Rattle.optable.specs.Called.{lentOf, CallsTo, LooksTo}
+use Rattle.optable.specs.Held.{lentWith, Holds, MakesTo, Turn, Takes, HoldsNext, event}
+use Rattle.optable.proofs.Held.{held-laws, holds-fits, holds-sound, words-say}
+use Rattle.parser.specs.declared.{forms.Said.Said, requests.Asks.Asks}
+use Rattle.parser.specs.declared.forms.Said.the-variants as Said
+use Rattle.parser.specs.declared.requests.Asks.the-variants as Asks
 use Rattle.parser.specs.Asks.{asksOf}
-use Rattle.hostfill.specs.Writes.{fillBytes, filled, placeIn, inPool}
+use Rattle.printer.specs.Replay.{replayText}
+use Rattle.hostfill.specs.Writes.{filled, placeIn}
 use Rattle.hostfill.specs.MayFill.{mayFill, Open}
 use Rattle.session.specs.Host.{FillsIn}
-use Rattle.session.proofs.Places.{ends}
 use Rattle.session.specs.Asking.{Held, namedIn, Still, Ran, Asked}
-use Rattle.session.specs.Table.{withPool, Fills, Answers}
+use Rattle.session.specs.Table.{LooksAs, shorter, withPool, Fills, Answers}
+use Rattle.tracelaws.specs.Laws.{askedEvents, lineEvents, Prints, Leaves}
+use Rattle.tracelaws.proofs.Filling.{may-fill}
 
-abbrev OpenIn : Held → Type 0
-OpenIn h = Open (h .counts) (h .lent)
+-- the host may leave the pool as it is
+may-stay : (c : Counts) (l : Lent) → HostMay (stateIn c l) (l .pool)
+unfolding stateIn bytesAt
+may-stay c l = record { count = refl; each = λ b lt. inr (inl refl) }
 
--- the table is open after as before, and its pool is as long
-abbrev pub KeptOpen : Held → Held → Type 0
-KeptOpen h h′ = OpenIn h′ × (length (h′ .lent .pool) ≡ length (h .lent .pool))
+module _ (x : Start) (h : List Event) where
+  pub is-open : (c : Counts) (l : Lent) → Holds x h c l → Open c l
+  is-open c l z = record { lengths = holds-fits x h c l z; sound = holds-sound x h c l z }
 
-same-kept : (h h′ : Held) → h′ ≡ h → OpenIn h → KeptOpen h h′
-same-kept h h′ e o = subst (λ (x : Held). KeptOpen h x) (sym e) (o, refl)
+  -- what is left by a line that is the events es, with a text
+  abbrev LeavesBy : List Event → Held → List ℕ → Type 0
+  LeavesBy es held′ text = Holds x (h ++ es) (held′ .counts) (held′ .lent) × Prints x h es text
 
--- the lengths that a call finds are the opening's where those of the memory and of the words are as they were
-same-lengths : (l l′ : Lent) → lengthsOf l′ ≡ lengthsOf l → lengthsIn (l′ .store) ≡ lengthsIn (l .store) → sameLengths (lengthsOf l′) (l′ .store) ≡ sameLengths (lengthsOf l) (l .store)
-unfolding lengthsOf lengthsIn sameLengths
-same-lengths l l′ e f =
-    λ j. leb 48 (e j .store) && (eqb (e j .rows) (f j .rows) && (eqb (e j .store) (f j .store) && (eqb (e j .free) (f j .free) && (eqb (e j .ready) (f j .ready) && (eqb (e j .owners) (f j .owners) && eqb (e j .pool) (f j .pool))))))
+  module _ (held : Held) (z : Holds x h (held .counts) (held .lent)) where
+    still : (held′ : Held) (text : List ℕ) → held′ ≡ held → LeavesBy [] held′ text
+    unfolding Prints
+    still held′ text e = (subst (λ (y : Held). Holds x (h ++ []) (y .counts) (y .lent)) (sym e) (subst (λ (g : List Event). Holds x g (held .counts) (held .lent)) (sym (append-nil h)) z), tt)
 
-ran-kept : (call : Call) (h h′ : Held) (text : List ℕ) → Ran call h h′ text → OpenIn h → KeptOpen h h′
-unfolding stateIn done lengthsOf
-ran-kept call h h′ text r o =
-    let s : State = stateIn (h .counts) (h .lent) in
-    let e = r .called .as-step (o .sound) in
-    let long = r .called .beyond (o .sound) .lengths in
-    let lengths : lengthsIn (h′ .lent .store) ≡ lengthsIn (h .lent .store) = sym (ap (λ (z : State × Reply). z .0 .lengths) e) ∙ done-stays s (lengthsOf (h .lent)) (calls call) .lengths in (
-      record {
-        lengths = same-lengths (h .lent) (h′ .lent) long lengths ∙ o .lengths;
-        sound = subst Sound (ap (λ (z : State × Reply). z .0) e) (step-laws .keeps s (lengthsOf (h .lent)) call (o .sound));
-      },
-      ap (λ (x : Lengths). x .pool) long,
-    )
+    ran : (c : Call) (held′ : Held) (text : List ℕ) → Ran c held held′ text → LeavesBy (event (held .lent .pool) (lengthsOf (held .lent)) (calls c) ∷ []) held′ text
+    unfolding MakesTo Prints
+    ran c held′ text r =
+        let n = held-laws .makes x h (held .counts) (held .lent) (calls c) (r .reply) (held′ .counts) (held′ .lent) z (r .called) in
+        (n .holds, r .prints ∙ ap replayText (n .reply))
 
-asked-kept : (asks : Asks) (n : ℕ) (h h′ : Held) (text : List ℕ) → Asked asks n h h′ text → OpenIn h → KeptOpen h h′
-unfolding Asked
-asked-kept Nothing n h h′ text a o = same-kept h h′ (a .held) o
-asked-kept (asksCall c) n h h′ text a o = ran-kept c h h′ text a o
-asked-kept Other n h h′ text a o = same-kept h h′ (a .held) o
+    asked : (a : Asks) (number : ℕ) (held′ : Held) (text : List ℕ) → Asked a number held held′ text → LeavesBy (askedEvents a held) held′ text
+    unfolding Asked askedEvents
+    asked Asks.Nothing number held′ text r = still held′ text (r .held)
+    asked (Asks.Call c) number held′ text r = ran c held′ text r
+    asked Asks.Other number held′ text r = still held′ text (r .held)
 
--- the host's bytes: as many as there were
-long-fill : (seed i n : ℕ) → length (fillBytes seed i n) ≡ n
-unfolding fillBytes
-long-fill seed i zero = refl
-long-fill seed i (suc n) = ap suc (long-fill seed (i + 1) n)
+    looked : (y : Lookup) (held′ : Held) (text : List ℕ) → held′ ≡ held → LooksAs y (held .counts) (held .lent) text → LeavesBy (event (held .lent .pool) (lengthsOf (held .lent)) (looks y) ∷ []) held′ text
+    unfolding MakesTo Prints
+    looked y held′ text e r =
+        let n = held-laws .makes x h (held .counts) (held .lent) (looks y) (r .reply) (held .counts) (held .lent) z (r .looked, refl, refl) in
+        let d = event (held .lent .pool) (lengthsOf (held .lent)) (looks y) in
+        (subst (λ (w : Held). Holds x (h ++ (d ∷ [])) (w .counts) (w .lent)) (sym e) (n .holds), r .prints ∙ ap replayText (n .reply))
 
-long-filled : (at n seed : ℕ) (pool : List ℕ) → at + n ≤ length pool → length (filled at n seed pool) ≡ length pool
-unfolding filled
-long-filled at n seed pool h =
-    let a = length-append (take at pool ++ fillBytes seed 0 n) (drop (at + n) pool) in
-    let b = length-append (take at pool) (fillBytes seed 0 n) in
-    let c = length-take at pool in
-    let d = length-drop (at + n) pool in
-    let e = long-fill seed 0 n in
-    omega (arith, a, b, c, d, e)
+    -- `len`: the free stack has a word at least, so that without its last it has another length
+    abbrev short : Lent
+    short = shorter (held .lent)
 
-module _ (b at n seed number : ℕ) (h h′ : Held) (text : List ℕ) (f : Fills b at n seed number h h′ text) (o : OpenIn h) where
-  abbrev l : Lent
-  l = h .lent
+    some-word : 0 < length (held .lent .free)
+    unfolding stateIn lengthsOf
+    some-word =
+        let sound = holds-sound x h (held .counts) (held .lent) z in
+        let own = words-say x h (held .counts) (held .lent) z ∙ sym (z .lengths) in
+        omega (arith, sound .room .free, sound .numbers .some-depth, ap (λ (a : Lengths). a .free) own)
 
-  as-long : (may : Bool) → may ≡ mayFill (stateIn (h .counts) l) b at n
-      → length (pick may (filled (placeIn (settingsIn (l .store) .capacity) b at) n seed (l .pool)) (l .pool)) ≡ length (l .pool)
-  unfolding pick mayFill stateIn
-  as-long false e = refl
-  as-long true e =
-      let inside = and-left (inPool (settingsIn (l .store) .buffers) (settingsIn (l .store) .capacity) (l .pool) b at n) _ (sym e) in
-      long-filled (b * settingsIn (l .store) .capacity + at) n seed (l .pool) (ends (settingsIn (l .store) .buffers) (settingsIn (l .store) .capacity) (l .pool) b at n inside)
+    another : lengthsOf short ≡ lengthsOf (held .lent) → ⊥
+    unfolding lengthsOf shorter
+    another e = omega (arith, some-word, length-take-le (length (held .lent .free) - 1) (held .lent .free) (omega arith), ap (λ (a : Lengths). a .free) e)
 
-  long-as : (pool′ : List ℕ) → length pool′ ≡ length (l .pool) → lengthsOf (lentOf (l .rows) (l .store) (l .free) (l .ready) (l .owners) pool′) ≡ lengthsOf l
-  unfolding lengthsOf
-  long-as pool′ e = λ j. record { rows = length (l .rows); store = length (l .store); free = length (l .free); ready = length (l .ready); owners = length (l .owners); pool = e j }
+    len : (held′ : Held) (text : List ℕ) → held′ ≡ held → LooksAs Lookup.WritesLive (held .counts) short text → LeavesBy (event (held .lent .pool) (lengthsOf short) (looks Lookup.WritesLive) ∷ []) held′ text
+    unfolding MakesTo Prints shorter
+    len held′ text e r =
+        let u : Turn =
+        record { leaves = held .lent .pool; made = looks Lookup.WritesLive; lent = short; reply = r .reply; counts-left = held .counts; left = short; counts = held .counts; held = held .lent }
+        in
+        let k : Takes (held .counts) (held .lent) u = record {
+          may = may-stay (held .counts) (held .lent);
+          lends = record { words = inr refl; all = λ same. absurd (another same) };
+          makes = (r .looked, refl, refl);
+          all = λ same. absurd (another same);
+          others = λ unlike c l. (refl, refl);
+        } in
+        let n = held-laws .takes x h (held .counts) (held .lent) u z k in
+        let d = event (held .lent .pool) (lengthsOf short) (looks Lookup.WritesLive) in
+        (subst (λ (w : Held). Holds x (h ++ (d ∷ [])) (w .counts) (w .lent)) (sym e) (n .holds), r .prints ∙ ap replayText (n .reply))
 
-  pub fills-kept : KeptOpen h h′
-  unfolding withPool stateIn leave
-  fills-kept =
-      let pool′ = h′ .lent .pool in
-      let long : length pool′ ≡ length (l .pool) = ap length (f .1 .pool-is) ∙ as-long (f .1 .may) (f .1 .may-is (h .counts) (l .free) (l .ready) o) in
-      let l′ : Lent = lentOf (l .rows) (l .store) (l .free) (l .ready) (l .owners) pool′ in
-      let lengths : lengthsOf l′ ≡ lengthsOf l = long-as pool′ long in
-      let there : OpenIn (withPool pool′ h) =
-      record { lengths = same-lengths l l′ lengths refl ∙ o .lengths; sound = step-laws .leaves (stateIn (h .counts) l) pool′ (o .sound) long }
-      in
-      (subst OpenIn (sym (f .0)) there, long)
+    -- `fill`: the host writes where it may, or nothing
+    filled-so : (b at n seed : ℕ) (may : Bool) → may ≡ mayFill (stateIn (held .counts) (held .lent)) b at n
+        → HostMay (stateIn (held .counts) (held .lent)) (pick may (filled (placeIn (settingsIn (held .lent .store) .capacity) b at) n seed (held .lent .pool)) (held .lent .pool))
+    unfolding pick stateIn
+    filled-so b at n seed true e = may-fill (stateIn (held .counts) (held .lent)) b at n seed (sym e)
+    filled-so b at n seed false e = may-stay (held .counts) (held .lent)
 
-pub answers-kept : (said : Said) (n : ℕ) (h h′ : Held) (text : List ℕ) → Answers said n h h′ text → OpenIn h → KeptOpen h h′
-unfolding Answers
-answers-kept Comment n h h′ text a o = same-kept h h′ (a .held) o
-answers-kept (callSaid c) n h h′ text a o = ran-kept c h h′ text a o
-answers-kept (Own w b p l d t) n h h′ text a o = asked-kept (asksOf (Own w b p l d t) (namedIn (h .lent .store)) (h .flushes)) n h h′ text a o
-answers-kept (Count t k) n h h′ text a o = asked-kept (asksOf (Count t k) (namedIn (h .lent .store)) (h .flushes)) n h h′ text a o
-answers-kept (Look x) n h h′ text a o = same-kept h h′ (a .0) o
-answers-kept Len n h h′ text a o = same-kept h h′ (a .0) o
-answers-kept (Fill b at k seed) n h h′ text a o = fills-kept b at k seed n h h′ text a o
-answers-kept (Sum b at k) n h h′ text a o = same-kept h h′ (a .held) o
-answers-kept Rows n h h′ text a o = same-kept h h′ (a .0) o
-answers-kept Bad n h h′ text a o = same-kept h h′ (a .held) o
+    fills : (b at n seed number : ℕ) (held′ : Held) (text : List ℕ) → Fills b at n seed number held held′ text → LeavesBy [] held′ text
+    unfolding Prints withPool
+    fills b at n seed number held′ text f =
+        let m = filled-so b at n seed (f .1 .may) (f .1 .may-is (held .counts) (held .lent .free) (held .lent .ready) (is-open (held .counts) (held .lent) z)) in
+        let written = held-laws .writes x h (held .counts) (held .lent) (held′ .lent .pool) z (subst (HostMay (stateIn (held .counts) (held .lent))) (sym (f .1 .pool-is)) m) in
+        (subst (λ (w : Held). Holds x (h ++ []) (w .counts) (w .lent)) (sym (f .0)) (subst (λ (g : List Event). Holds x g (held .counts) (lentWith (held .lent) (held′ .lent .pool))) (sym (append-nil h)) written), tt)
+
+    answers : (said : Said) (number : ℕ) (held′ : Held) (text : List ℕ) → Answers said number held held′ text → LeavesBy (lineEvents said held) held′ text
+    unfolding Answers lineEvents
+    answers Said.Comment number held′ text a = still held′ text (a .held)
+    answers (Said.Call c) number held′ text a = ran c held′ text a
+    answers (Said.Own w b p l d t) number held′ text a = asked (asksOf (Said.Own w b p l d t) (namedIn (held .lent .store)) (held .flushes)) number held′ text a
+    answers (Said.Count t k) number held′ text a = asked (asksOf (Said.Count t k) (namedIn (held .lent .store)) (held .flushes)) number held′ text a
+    answers (Said.Look y) number held′ text a = looked y held′ text (a .0) (a .1)
+    answers Said.Len number held′ text a = len held′ text (a .0) (a .1)
+    answers (Said.Fill b at k seed) number held′ text a = fills b at k seed number held′ text a
+    answers (Said.Sum b at k) number held′ text a = still held′ text (a .held)
+    answers Said.Rows number held′ text a = still held′ text (a .0)
+    answers Said.Bad number held′ text a = still held′ text (a .held)
+
+    pub leaves : (said : Said) (number : ℕ) (held′ : Held) (text : List ℕ) → Answers said number held held′ text → Leaves x h said held held′ text
+    leaves said number held′ text a = let z′ = answers said number held′ text a in record { holds = z′ .0; prints = z′ .1 }

@@ -1,23 +1,73 @@
--- What holds of a trace from its first line on: what is lent to an open table is a table that calls have left (hostfill's `Open`). So what `CallsTo`,
--- `LooksTo`, `FillsIn` and `ListsIn` say of such tables is promised of every line. Proved in proofs/Laws.antt (trace-laws).
+-- What holds of a trace from its first line on: what is lent to an open table is a table that calls have left, the history since `start` that its
+-- lines are (optable's Held: Holds). So what `CallsTo`, `LooksTo`, `FillsIn` and `ListsIn` say of such tables is promised of every line, and what a
+-- line of calls prints is the step's reply after that history. Proved in proofs/Laws.antt (trace-laws).
 use mathlib.Core.Path.{_≡_}
-use mathlib.Core.List.{List}
+use mathlib.Core.List.{List, [], _∷_, _++_}
 use Prim.Native.Nat.{ℕ}
-use Rattle.model.specs.declared.Counts.{Counts}
-use Rattle.model.specs.Memory.{Lent, stateIn}
+use Rattle.model.specs.declared.{Counts.Counts, Lookup.Lookup}
+use Rattle.model.specs.declared.Lookup.the-variants as Lookup
+use Rattle.model.specs.Memory.{Lent, lengthsOf, stateIn}
 use Rattle.step.specs.Questions.{regionAt}
+use Rattle.step.specs.Run.{Made.calls, Made.looks, Event, Start, after, replyTo}
+use Rattle.optable.specs.Held.{Holds, event}
 use Rattle.hostfill.specs.MayFill.{Open}
-use Rattle.session.specs.Asking.{namedIn}
+use Rattle.parser.specs.declared.{forms.Said.Said, requests.Asks.Asks}
+use Rattle.parser.specs.declared.forms.Said.the-variants as Said
+use Rattle.parser.specs.declared.requests.Asks.the-variants as Asks
+use Rattle.parser.specs.Asks.{asksOf}
+use Rattle.parser.specs.Said.{saidRead}
+use Rattle.printer.specs.Replay.{replayText}
+use Rattle.session.specs.Asking.{Held, namedIn}
+use Rattle.session.specs.Table.{shorter}
 use Rattle.session.specs.declared.Stage.{Stage}
 use Rattle.session.specs.declared.Stage.the-variants as Stage
 use Rattle.session.specs.Unopened.{Stood}
-use Rattle.session.specs.Opened.{partOf}
+use Rattle.session.specs.Opened.{partOf, TableLine}
 use Rattle.session.specs.Lines.{Line}
+
+-- ---- the history that lines are
+
+-- the call or the lookup that a line asks for, with the pool as it lies then and the lengths that are lent; what the host does between calls, a
+-- comment and a line of another form make none
+unfoldable pub askedEvents : Asks → Held → List Event
+askedEvents Asks.Nothing h = []
+askedEvents (Asks.Call c) h = event (h .lent .pool) (lengthsOf (h .lent)) (calls c) ∷ []
+askedEvents Asks.Other h = []
+
+unfoldable pub lineEvents : Said → Held → List Event
+lineEvents Said.Comment h = []
+lineEvents (Said.Call c) h = event (h .lent .pool) (lengthsOf (h .lent)) (calls c) ∷ []
+lineEvents (Said.Own write b p n durable tag) h = askedEvents (asksOf (Said.Own write b p n durable tag) (namedIn (h .lent .store)) (h .flushes)) h
+lineEvents (Said.Count t n) h = askedEvents (asksOf (Said.Count t n) (namedIn (h .lent .store)) (h .flushes)) h
+lineEvents (Said.Look x) h = event (h .lent .pool) (lengthsOf (h .lent)) (looks x) ∷ []
+lineEvents Said.Len h = event (h .lent .pool) (lengthsOf (shorter (h .lent))) (looks Lookup.WritesLive) ∷ []
+lineEvents (Said.Fill b at n seed) h = []
+lineEvents (Said.Sum b at n) h = []
+lineEvents Said.Rows h = []
+lineEvents Said.Bad h = []
+
+-- the text of a line that is an event: that of the step's reply
+unfoldable pub Prints : Start → List Event → List Event → List ℕ → Type 0
+Prints x h [] text = Unit {0}
+Prints x h (e ∷ es) text = text ≡ replayText (replyTo (after x h) e)
+
+-- after a line the history that it is has been added, and is in what is held
+pub record Leaves (x : Start) (h : List Event) (said : Said) (held held′ : Held) (text : List ℕ) : Type 0 where
+  pub holds : Holds x (h ++ lineEvents said held) (held′ .counts) (held′ .lent)
+  pub prints : Prints x h (lineEvents said held) text
+
+-- ---- where a trace stands
+
+-- a table that calls have left
+pub record Reached (c : Counts) (l : Lent) : Type 0 where
+  pub start : Start
+  pub history : List Event
+  pub holds : Holds start history c l
 
 unfoldable pub StandsAt : Stage → Stood → Type 0
 StandsAt Stage.Before s = Unit {0}
 StandsAt (Stage.Planned o) s = Unit {0}
-StandsAt (Stage.Table k) s = Open (s .counts) (partOf k s .lent)
+StandsAt (Stage.Table k) s = Reached (s .counts) (partOf k s .lent)
 StandsAt Stage.Refused s = Unit {0}
 StandsAt Stage.Over s = Unit {0}
 
@@ -26,7 +76,13 @@ Stands s = StandsAt (s .stage) s
 
 pub record TraceLaws : Type 0 where
   pub first : (s : Stood) → StandsAt Stage.Before s
+  pub line : (bytes : List ℕ) (n : ℕ) (s s′ : Stood) (text : List ℕ) → Stands s → Line bytes n s s′ text → Stands s′
+  -- a line of an open table, with its history
+  pub table : (x : Start) (h : List Event) (k : ℕ) (bytes : List ℕ) (n : ℕ) (s s′ : Stood) (text : List ℕ)
+      → Holds x h (s .counts) (partOf k s .lent) → TableLine k (saidRead bytes) n s s′ text
+      → Leaves x h (saidRead bytes) (partOf k s) (partOf k s′) text
+  -- such a table is open: `fill` and `rows` are promised values of it (session's Host)
+  pub is-open : (c : Counts) (l : Lent) → Reached c l → Open c l
   -- `w` and `r`: "handle 0, with its own volume, id and generation" names what the table has there
   pub own-names : (c : Counts) (l : Lent) → Open c l → namedIn (l .store) ≡
       record { volume = stateIn c l .settings .volume; region = regionAt (stateIn c l) 0 .id; generation = regionAt (stateIn c l) 0 .generation }
-  pub line : (bytes : List ℕ) (n : ℕ) (s s′ : Stood) (text : List ℕ) → Stands s → Line bytes n s s′ text → Stands s′
