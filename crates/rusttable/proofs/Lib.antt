@@ -1,6 +1,7 @@
 -- The Rust's functions are `step`'s, call by call.
 pub mod Lists
 pub mod Frames
+pub mod RegionMap
 pub mod Rows
 pub mod Handed
 pub mod Within
