@@ -3,11 +3,12 @@ use mathlib.Core.Path.{_≡_}
 use mathlib.Core.Bool.{Bool, true, false}
 use mathlib.Core.List.{List, map}
 use mathlib.Core.Option.{Option, none, some, Option·map}
-use Prim.Native.Nat.{ℕ, _+_, _-_, _≤_, _<_}
+use Prim.Native.Nat.{ℕ, _+_, _-_, _≤_, _<_, _^_}
 use lib.Dec.{ltb, eqb}
+use lib.ListN.{length}
 use Rattle.layout.specs.Pick.{pick}
 use Rattle.regionmap.specs.declared.Offset.{Offset}
-use Rattle.regionmap.specs.Map.{Map, runOf}
+use Rattle.regionmap.specs.Map.{Map}
 use Rattle.domain.specs.declared.{Op.Op, OsError.OsError}
 use Rattle.domain.specs.declared.OsError.the-variants as OsError
 use Rattle.platform.specs.declared.Answer.{Answer}
@@ -41,6 +42,7 @@ use Rattle.rusttable.specs.Table.{NotWrittenCause.Misaligned, NotWritten
 use Rattle.rusttable.specs.Table.{Error.NotWritten, Error.Poisoned, Error.Io, Error.DurabilityUnknown, Error.Corruption, Done.Wrote, Done.Read}
 use Rattle.rusttable.specs.Table.{Finish.Finished, Finish.Flush, Finish.Next, Req.WriteAt, Req.ReadAt, Submitted.Taken}
 use Rattle.rusttable.specs.Table.{Submitted.Refused as QueueRefuses, Issued.Submit, Issued.Reject}
+use Rattle.rusttable.specs.RegionMap.{«run_of», locate, «run_end»}
 use Rattle.rusttable.specs.Functions.{«receipt_for», «durable_receipt», indexIn, returned, finish as rustFinish, «refused_next»}
 use Rattle.rusttable.specs.Functions.{abort as rustAbort, flushed as rustFlushed, next, Popped, write as rustWrite, «read_page», new as rustNew}
 use Rattle.rusttable.specs.Domain.{InDomain}
@@ -253,14 +255,17 @@ pub record Takes (issued : ℕ) (s : State) (popped : Popped) (after : State × 
   pub store : storeOf (after .0) issued ≡ storeOf s issued
   pub front : some (popped .front) ≡ frontAs (after .0) (after .1)
 
--- What the Rust asserts of the piece under way: it moves the operation on (`finish`), its buffer has room for the whole operation (`set_len`), and
--- its range lies within the data and within one run (`RegionMap::locate`).
+-- What the Rust asserts of the piece under way: it moves the operation on (`finish`), its buffer has room for the whole operation (`set_len`), bytes
+-- are left in its run (`RegionMap::run_left`), and its range lies within the data and within one run (`RegionMap::locate`). Its end on the card is a
+-- number of 64 bits, so no sum of the map wraps.
 pub record Asserts (m : Map) (start : ℕ) (sp : Split) (count capacity : ℕ) : Type 0 where
   pub moves : sp .done < sp .done + count
   pub most : sp .done + count ≤ sp .total
   pub room : sp .total ≤ capacity
+  pub rest : start + sp .done < «run_end» m (start + sp .done)
   pub in-data : start + sp .done + count ≤ m .dataLength
-  pub in-run : start + sp .done + count ≤ runOf m (start + sp .done) .end
+  pub in-run : start + sp .done + count ≤ «run_of» m (start + sp .done) (length (m .more)) .2
+  pub unwrapped : locate m (start + sp .done) count + count < 2 ^ 64
 
 -- the calls that set a mark of a region, or report poison
 unfoldable pub isSetting : Call → Bool
