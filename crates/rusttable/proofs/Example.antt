@@ -28,7 +28,7 @@ use Rattle.step.specs.Alone.{tagGiven}
 use Rattle.step.specs.Lists.{HostMay}
 use Rattle.step.specs.Figures.{figuresOpening, figuresPlan, figuresLengths, figuresTable, asking, replyAfter, tableAfter, answers}
 use Rattle.rusttable.specs.Domain.{compared, knownHandle, isTag, atOnce, unjoinedFrom, unjoined, InDomain}
-use Rattle.rusttable.specs.Histories.{isSubmission, MadeIn, HistoryIn}
+use Rattle.rusttable.specs.Histories.{MadeIn, HistoryIn}
 
 -- calls that all lend the figures' lengths, between which the host writes nothing
 pub calmly : State → List Call → List Event
@@ -44,10 +44,10 @@ may : (s : State) → HostMay s (s .pool)
 unfolding bytesAt
 may s = record { count = refl; each = λ b lt. inr (inl refl) }
 
-calm-history : (after : Bool) (before : Option ℕ) (s : State) (cs : List Call) → CallsIn before s cs → HistoryIn after before s (calmly s cs)
+calm-history : (before : Option ℕ) (s : State) (cs : List Call) → CallsIn before s cs → HistoryIn before s (calmly s cs)
 unfolding calmly CallsIn HistoryIn MadeIn next replyTo leave done
-calm-history after before s [] f = tt
-calm-history after before s (c ∷ cs) f = (may s, λ r. refl, f .0, calm-history (isSubmission (calls c)) (tagGiven (step s figuresLengths c .1)) (step s figuresLengths c .0) cs (f .1))
+calm-history before s [] f = tt
+calm-history before s (c ∷ cs) f = (may s, f .0, calm-history (tagGiven (step s figuresLengths c .1)) (step s figuresLengths c .0) cs (f .1))
 
 -- a first piece is refused at once; of the same write, made again, the second is
 abbrev pub told : List Call
@@ -88,5 +88,5 @@ in-it = record {
   );
 }
 
-pub history-in-it : HistoryIn false none figuresTable (calmly figuresTable told)
-history-in-it = calm-history false none figuresTable told (in-it .together)
+pub history-in-it : HistoryIn none figuresTable (calmly figuresTable told)
+history-in-it = calm-history none figuresTable told (in-it .together)

@@ -283,28 +283,31 @@ isSetting (Call.ReportPoison cause) = true
 pub record AsStep : Type 0 where
   -- `Table::new`
   pub new : (o : Opening) (plans : List Plan) (l : Lengths) (pool : List ℕ) → rustNew (o .depth) ≡ tableOf (opened o plans l pool)
-  -- `Submitter::write`, with a queue that takes the first piece; and with one that refuses it at once: in step the answer that follows
+  -- `Submitter::write`, with a queue that takes the first piece; and with one that refuses it at once: in step the answer that follows. Between the
+  -- two the host writes as it may, into a read's piece too, and the queue gives the buffer back as it lies then.
   pub write : (before : Option ℕ) (s : State) (l : Lengths) (q : Request) (issued : ℕ) → Sound s → InDomain before s l (Call.Write q)
       → Submits issued true (bufOf s (q .buffer) (q .length))
       (rustWrite (submitterOf s issued) (q .handle) (posOf q) (bufOf s (q .buffer) (q .length)) (q .durable) (q .tag) Taken) (step s l (Call.Write q))
   pub write-refused : (before : Option ℕ) (s : State) (l : Lengths) (q : Request) (issued : ℕ) → Sound s → InDomain before s l (Call.Write q)
       → (t : ℕ) (offset : Offset) (count b : ℕ) → step s l (Call.Write q) .1 ≡ Reply.Piece t offset count b
-      → (raw : Option RawError) (back : Bool) (flushes : ℕ)
-      → InDomain (some t) (step s l (Call.Write q) .0) l (Call.Answer t (refusalOf raw) back flushes)
+      → (pool : List ℕ) → HostMay (step s l (Call.Write q) .0) pool → (raw : Option RawError) (back : Bool) (flushes : ℕ)
+      → InDomain (some t) (leave (step s l (Call.Write q) .0) pool) l (Call.Answer t (refusalOf raw) back flushes)
       → Submits issued true (bufOf s (q .buffer) (q .length))
-      (rustWrite (submitterOf s issued) (q .handle) (posOf q) (bufOf s (q .buffer) (q .length)) (q .durable) (q .tag) (QueueRefuses raw back))
-      (step (step s l (Call.Write q) .0) l (Call.Answer t (refusalOf raw) back flushes))
+      (rustWrite (submitterOf s issued) (q .handle) (posOf q) (bufOf s (q .buffer) (q .length)) (q .durable) (q .tag)
+      (QueueRefuses raw (returned back (inFlight (leave (step s l (Call.Write q) .0) pool) t))))
+      (step (leave (step s l (Call.Write q) .0) pool) l (Call.Answer t (refusalOf raw) back flushes))
   -- `Submitter::read_page`, likewise
   pub read : (before : Option ℕ) (s : State) (l : Lengths) (q : Request) (issued : ℕ) → Sound s → InDomain before s l (Call.ReadPage q)
       → Submits issued false (bufOf s (q .buffer) (q .length))
       («read_page» (submitterOf s issued) (q .handle) (posOf q) (bufOf s (q .buffer) (q .length)) (q .tag) Taken) (step s l (Call.ReadPage q))
   pub read-refused : (before : Option ℕ) (s : State) (l : Lengths) (q : Request) (issued : ℕ) → Sound s → InDomain before s l (Call.ReadPage q)
       → (t : ℕ) (offset : Offset) (count b : ℕ) → step s l (Call.ReadPage q) .1 ≡ Reply.Piece t offset count b
-      → (raw : Option RawError) (back : Bool) (flushes : ℕ)
-      → InDomain (some t) (step s l (Call.ReadPage q) .0) l (Call.Answer t (refusalOf raw) back flushes)
+      → (pool : List ℕ) → HostMay (step s l (Call.ReadPage q) .0) pool → (raw : Option RawError) (back : Bool) (flushes : ℕ)
+      → InDomain (some t) (leave (step s l (Call.ReadPage q) .0) pool) l (Call.Answer t (refusalOf raw) back flushes)
       → Submits issued false (bufOf s (q .buffer) (q .length))
-      («read_page» (submitterOf s issued) (q .handle) (posOf q) (bufOf s (q .buffer) (q .length)) (q .tag) (QueueRefuses raw back))
-      (step (step s l (Call.ReadPage q) .0) l (Call.Answer t (refusalOf raw) back flushes))
+      («read_page» (submitterOf s issued) (q .handle) (posOf q) (bufOf s (q .buffer) (q .length)) (q .tag)
+      (QueueRefuses raw (returned back (inFlight (leave (step s l (Call.ReadPage q) .0) pool) t))))
+      (step (leave (step s l (Call.ReadPage q) .0) pool) l (Call.Answer t (refusalOf raw) back flushes))
   -- `Table::finish`, of a count or an error; the flush count is the answer's
   pub finish : (before : Option ℕ) (s : State) (l : Lengths) (t : ℕ) (result : RawResult) (back : Bool) (flushes : ℕ) → Sound s
       → InDomain before s l (Call.Answer t (answerOf result) back flushes)

@@ -540,7 +540,7 @@ Told = Result (ℕ × Req) (Option RawError × Option IoBuf)
 
 unfoldable pub submit : Submitter → Table → ℕ → ℕ → Req → Option Split → Submitted → Submitter × Told
 submit s t index qtag req split Taken = (withTable s t, Ok (qtag, req))
-submit s t index qtag req split (Refused raw back) = (withTable s (abort t index), Err (raw, Option·map (whole split) (returned back (bufIn req))))
+submit s t index qtag req split (Refused raw buf) = (withTable s (abort t index), Err (raw, Option·map (whole split) buf))
 
 unfoldable pub issue : Submitter → Req → ℕ → Kind → ℕ → Bool → Option Split → Submitted → Submitter × Told
 issue s req tag kind handle durable split queue =
