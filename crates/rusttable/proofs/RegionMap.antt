@@ -107,7 +107,7 @@ last-run r (x ∷ xs) (suc k) lo cap p up b =
 
 -- ---- the map
 
-module _ (m : Map) (law : Lawful m) (p : ℕ) where
+module _ (m : Map) (p : ℕ) where
   abbrev count : ℕ
   count = length (m .more)
 
@@ -123,11 +123,17 @@ module _ (m : Map) (law : Lawful m) (p : ℕ) where
   before-is zero = refl
   before-is (suc k) = let less : suc k - 1 ≡ k = omega arith in rw (ne-eqb (suc k) 0 (λ e. omega arith), less) refl
 
-  pub run-of : «run_of» m p count ≡ (runOf m p .start, runOf m p .offset, runOf m p .end)
-  unfolding «run_of» runOf run
-  run-of =
-      let found = last-run (firstRun m) (m .more) lo 0 (m .capacity) p (law .rising) met in
-      (λ j. (before-is lo j .0, before-is lo j .1, endOf (m .more) (m .capacity) lo)) ∙ ap (λ (s : Span). (s .start, s .offset, s .end)) (sym found)
+  -- what `run_of` has behind its loop
+  found-is : «run_of» m p count ≡ (runBefore (firstRun m) (m .more) lo .start, runBefore (firstRun m) (m .more) lo .offset, endOf (m .more) (m .capacity) lo)
+  unfolding «run_of» run
+  found-is = λ j. (before-is lo j .0, before-is lo j .1, endOf (m .more) (m .capacity) lo)
+
+  begins : «run_of» m p count .0 ≤ p
+  begins = subst (λ (r : ℕ × ℕ × ℕ). r .0 ≤ p) (sym found-is) (by-place lo (met .reached))
+    where
+      by-place : (k : ℕ) → ((j : ℕ) → k ≡ suc j → at (m .more) j .start ≤ p) → runBefore (firstRun m) (m .more) k .start ≤ p
+      by-place zero h = omega arith
+      by-place (suc k) h = h k refl
 
   -- one run is the first
   one-run : count ≡ 0 → runOf m p ≡ span (firstRun m) (m .capacity)
@@ -138,38 +144,35 @@ module _ (m : Map) (law : Lawful m) (p : ℕ) where
       by-runs [] e = refl
       by-runs (x ∷ xs) e = absurd (omega arith)
 
-  pub run-end : «run_end» m p ≡ runEnd m p
+  abbrev Found : Type 0
+  Found = «run_of» m p count ≡ (runOf m p .start, runOf m p .offset, runOf m p .end)
+
+  -- by the run that is found
+  end-by : Found → m .dataLength ≤ m .capacity → «run_end» m p ≡ runEnd m p
   unfolding «run_end» runEnd
-  run-end =
+  end-by found within =
       by-pick (eqb count 0) (λ (n : ℕ). n ≡ min (runOf m p .end) (m .dataLength))
-      (λ none. omega (arith, law .within, ap (λ (s : Span). s .end) (one-run (eqb-true count 0 none))))
-      (λ some. ap (λ (r : ℕ × ℕ × ℕ). min (r .2) (m .dataLength)) run-of)
+      (λ none. omega (arith, within, ap (λ (s : Span). s .end) (one-run (eqb-true count 0 none))))
+      (λ some. ap (λ (r : ℕ × ℕ × ℕ). min (r .2) (m .dataLength)) found)
 
-  pub run-left : «run_left» m p ≡ runLeft m p
-  unfolding «run_left» runLeft
-  run-left = ap (λ (e : ℕ). e - p) run-end
-
-  pub locate-is : (n : ℕ) → locate m p n ≡ place m p
+  place-by : Found → (n : ℕ) → locate m p n ≡ place m p
   unfolding locate place
-  locate-is n =
+  place-by found n =
       by-pick (eqb count 0) (λ (o : ℕ). o ≡ runOf m p .offset + (p - runOf m p .start))
       (λ none. ap (λ (n : ℕ). m .first + n) (sym (sub-zero p)) ∙ ap (λ (s : Span). s .offset + (p - s .start)) (sym (one-run (eqb-true count 0 none))))
-      (λ some. ap (λ (r : ℕ × ℕ × ℕ). r .1 + (p - r .0)) run-of)
+      (λ some. ap (λ (r : ℕ × ℕ × ℕ). r .1 + (p - r .0)) found)
 
-  begins : «run_of» m p count .0 ≤ p
-  unfolding «run_of»
-  begins = subst (λ (r : ℕ × ℕ). r .0 ≤ p) (sym (before-is lo)) (by-place lo (met .reached))
-    where
-      by-place : (k : ℕ) → ((j : ℕ) → k ≡ suc j → at (m .more) j .start ≤ p) → runBefore (firstRun m) (m .more) k .start ≤ p
-      by-place zero h = omega arith
-      by-place (suc k) h = h k refl
+run-of : (m : Map) → Lawful m → (p : ℕ) → Found m p
+unfolding runOf
+run-of m law p = found-is m p ∙ ap (λ (s : Span). (s .start, s .offset, s .end)) (sym (last-run (firstRun m) (m .more) (lo m p) 0 (m .capacity) p (law .rising) (met m p)))
 
 pub map-as-rust : MapAsRust
+unfolding «run_left» runLeft
 map-as-rust = record {
   run-of = run-of;
-  run-end = run-end;
-  run-left = run-left;
-  locate-is = locate-is;
+  run-end = λ m law pos. end-by m pos (run-of m law pos) (law .within);
+  run-left = λ m law pos. ap (λ (e : ℕ). e - pos) (end-by m pos (run-of m law pos) (law .within));
+  locate-is = λ m law pos len. place-by m pos (run-of m law pos) len;
   loop-ends = λ m pos turns le. enough m pos (length (m .more)) turns 0 (length (m .more)) (omega arith) le;
   begins = begins;
 }

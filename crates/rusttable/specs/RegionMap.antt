@@ -1,8 +1,8 @@
 -- regionmap.rs on values: where a region's data lies on the card, in the Rust's order of tests and statements and under its names. A map is the crate
 -- regionmap's value of one, read as the Rust's fields: `first`, `capacity`, `len` the data length, `count` how many runs follow the first. The chunks
 -- of `slots` are only where a run is stored, so run j after the first is the j-th of the list `more`; the loads are of a map that nobody extends.
--- What the Rust asserts is left out here and holds (AsStep, Asserts), and so does that its sums of u64 stay below 2^64 and its differences above 0:
--- a position is at most the data length, and its card offset is below the card's size.
+-- What the Rust asserts is left out here and holds of every piece (AsStep, Asserts). Numbers here do not wrap, as the Rust's u64 would: of a piece the
+-- sums stay below 2^64, since its positions are within the data and its bytes on the card, "at most 2^63 − 1" (Asserts, unwrapped).
 use mathlib.Core.Path.{_≡_}
 use Prim.Native.Nat.{ℕ, zero, suc, _+_, _-_, _/_, _≤_, min}
 use lib.ListN.{length, getD}
@@ -62,5 +62,5 @@ pub record MapAsRust : Type 0 where
   -- the loop has ended by then: further turns find nothing else
   pub loop-ends : (m : Map) (pos turns : ℕ) → length (m .more) ≤ turns
       → searched turns m pos 0 (length (m .more)) ≡ searched (length (m .more)) m pos 0 (length (m .more))
-  -- `pos - start`
-  pub begins : (m : Map) → Lawful m → (pos : ℕ) → «run_of» m pos (length (m .more)) .0 ≤ pos
+  -- `pos - start` is no difference below 0
+  pub begins : (m : Map) (pos : ℕ) → «run_of» m pos (length (m .more)) .0 ≤ pos
