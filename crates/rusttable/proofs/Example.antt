@@ -1,8 +1,9 @@
 -- The domain is not empty: on document 01's figures' opening a write across two runs, the answers of both pieces, and a refusal of its first or of its second
--- piece at once are in it, each call by itself and in one history with a taking. Every definition on the way is opened.
+-- piece at once are in it, each call by itself and in one history with a taking; and so is a history of reads in which the host writes before a first piece is
+-- refused: a buffer that it holds, then the piece itself. Every definition on the way is opened.
 use mathlib.Core.Path.{_≡_, refl, sym, ap, _∙_, subst}
 use mathlib.Core.Logic.{_⊎_, inl, inr, ⊎-elim}
-use mathlib.Core.Bool.{Bool, true, false}
+use mathlib.Core.Bool.{true}
 use mathlib.Core.List.{List, [], _∷_, _++_}
 use mathlib.Core.Option.{Option, none, some}
 use Prim.Native.Nat.{ℕ, _<_}

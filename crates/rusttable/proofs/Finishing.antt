@@ -9,7 +9,6 @@ use native.Mathlib.Omega.{arith}
 use borrow.Author.Tests.{ltb-true, ltb-false, lt-ltb, le-ltb}
 use lib.Dec.{ltb, eqb}
 use lib.ListN.{length}
-use lib.Seq.{getD-set-same}
 use Rattle.layout.specs.Pick.{pick}
 use Rattle.layout.proofs.Tests.{not-both, true-or-false, and-left, and-right}
 use mathlib.Core.Logic.{_⊎_, inl, inr}
@@ -28,14 +27,13 @@ use Rattle.model.specs.declared.Awaits.{Awaits}
 use Rattle.model.specs.declared.Awaits.the-variants.{Nothing, Piece, Flush as AwaitsFlush}
 use Rattle.model.specs.declared.Row.{Row}
 use Rattle.model.specs.declared.Call.the-variants.{Answer as Answers}
-use Rattle.model.specs.State.{Region, State, freed}
+use Rattle.model.specs.State.{Region, State}
 use Rattle.model.specs.Opening.{Plan}
 use Rattle.step.specs.Questions.{regionAt}
 use Rattle.step.specs.Rules.{leftOf, firstOf, pieceOf, pieceLength, Input.answered as fedAnswer, Fate, Fate.awaits as awaitsFate, bufferAs, turnedBack, lastPiece, abovePiece, isRefusal, firstRefused, isWhole, goesOn, splitAfter, pieceAnswered, answerRules, rules}
 use Rattle.step.specs.Step.{rowAt, rowOf, names, bytesAt, planOf, writesIn, awaitsNow, going, asksFor, settled, fateOf, called, step}
 use Rattle.step.specs.Sound.{Sound}
 use Rattle.step.proofs.Picked.{by-pick}
-use Rattle.step.proofs.Named.{named-below}
 use Rattle.step.proofs.Fates.{FateFits, fate-fits, goes-on-left}
 use Rattle.step.proofs.QuietRules.{piece-most}
 use Rattle.rusttable.specs.Table.{Result.Ok, Result.Err, IoBuf, RawResult, Live, Finish, Finish.Next, Submitter}
@@ -49,7 +47,7 @@ use Rattle.rusttable.proofs.Handed.{bufAs, own-onward, onward-put}
 use Rattle.rusttable.proofs.Concluding.{resultFor, isRefused, within, carried, operationOf}
 use Rattle.rusttable.proofs.Carried.{last-ended, carried-put, carried-settled}
 use Rattle.rusttable.proofs.Turning.{turn-whole, next-turned, order-back}
-use Rattle.rusttable.proofs.Pieces.{split-none, split-some, Placed, its-place, long, placed, its-live, there, has, some-bytes, Told, kind-ends}
+use Rattle.rusttable.proofs.Pieces.{split-none, split-some, Placed, row-going, its-place, long, placed, its-live, there, has, some-bytes, Told, kind-ends}
 use Rattle.rusttable.proofs.Within.{called-step, found-under}
 
 and-false : (a : Bool) → (a && false) ≡ false
@@ -251,8 +249,8 @@ module _ (s : State) (i : Sound s) (n t : ℕ) (found : names (rowAt s (rowOf t)
       writes-alike (Reads a b) z = refl
 
       row-after : rowAt after (rowOf t) .awaits ≡ Piece k later
-      unfolding rowAt going awaitsNow
-      row-after = ap (λ (x : Row). x .awaits) (getD-set-same (s .rows) (rowOf t) (awaitsNow row (Piece k later)) (freed 0) (rw (i .rows) (named-below s i t found)))
+      unfolding awaitsNow
+      row-after = ap (λ (x : Row). x .awaits) (row-going s t found (Piece k later) turn)
 
       abbrev its-region : Region
       its-region = regionAt s (row .handle)

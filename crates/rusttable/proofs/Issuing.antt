@@ -21,11 +21,12 @@ use Rattle.model.specs.declared.Request.{Request}
 use Rattle.model.specs.State.{Region, State, freed}
 use Rattle.step.specs.Questions.{regionAt}
 use Rattle.step.specs.Rules.{firstOf, pieceOf, pieceLength}
-use Rattle.step.specs.Step.{begun, queueTag, topOf, rowAt, durableAs, claimedBy, oneMore, accepted, bytesAt, planOf}
+use Rattle.step.specs.Step.{begun, queueTag, rowOf, topOf, rowAt, durableAs, claimedBy, oneMore, accepted, bytesAt, planOf}
 use Rattle.step.specs.Sound.{Sound}
 use Rattle.step.proofs.Answers.{Passed}
 use Rattle.step.proofs.Taken.{top-row}
 use Rattle.step.proofs.Buffers.{bytes-length}
+use Rattle.step.proofs.AloneTags.{row-of-tag}
 use Rattle.rusttable.specs.Table.{IoBuf, Live, Table, Req, Submitted}
 use Rattle.rusttable.specs.Table.{Row as RustRow}
 use Rattle.rusttable.specs.RegionMap.{«run_left», locate}
@@ -137,6 +138,14 @@ module _ (s : State) (i : Sound s) (q : Request) (p : Passed s q) (k : Kind) (st
   pub same-bytes : (b : ℕ) → bytesAt after b ≡ bytesAt s b
   unfolding accepted bytesAt
   same-bytes b = refl
+
+  -- its row, under its queue tag
+  pub row-index : rowOf (queueTag top generation) ≡ top
+  row-index = row-of-tag top generation (let lt = top-row s i (p .room) in let most = i .numbers .most-depth in omega arith)
+
+  pub claimed-row : rowAt after (rowOf (queueTag top generation)) ≡ new
+  unfolding rowAt accepted
+  claimed-row = rw row-index (getD-set-same (s .rows) top new (freed 0) (rw (i .rows) (top-row s i (p .room))))
 
   new-row : rowAs after new ≡ startedRow split
   unfolding rowAs liveOf claimedBy withSplit accepted regionAt

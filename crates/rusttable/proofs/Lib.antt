@@ -18,6 +18,7 @@ pub mod Issuing
 pub mod Asking
 pub mod Submitting
 pub mod Answering
+pub mod InFlight
 pub mod Writing
 pub mod Reading
 pub mod Leaving

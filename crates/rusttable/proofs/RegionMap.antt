@@ -1,7 +1,6 @@
 -- The Rust's map is document 01's: the loop of `run_of` brackets the first run that starts past the position, and in ascending starts the run before that one is
 -- the position's. By induction over the turns of the loop, and over the runs.
 use mathlib.Core.Path.{_≡_, refl, sym, ap, _∙_, subst}
-use mathlib.Core.Logic.{_⊎_, inl, inr}
 use mathlib.Core.Bool.{Bool, true, false}
 use mathlib.Core.List.{List, [], _∷_}
 use Prim.Native.Nat.{ℕ, zero, suc, _+_, _-_, _/_, _≤_, _<_, min}
@@ -11,7 +10,6 @@ use borrow.Author.Tests.{ltb-true, ltb-false, leb-true, leb-false, eqb-true, lt-
 use lib.Dec.{leb, ltb, eqb, leb·suc-suc}
 use lib.ListN.{length, getD}
 use Rattle.layout.specs.Pick.{pick}
-use Rattle.layout.proofs.Tests.{true-or-false}
 use Rattle.regionmap.specs.Map.{Map, Run, Span, span, firstRun, spanFrom, runOf, runEnd, runLeft, place, ascends}
 use Rattle.regionmap.specs.Laws.{Lawful}
 use Rattle.regionmap.proofs.RunsFacts.{rises, span-here, span-behind}

@@ -1,27 +1,24 @@
 -- What an issued submission comes to: taken by the queue it is `step`'s accepted one, and refused by it at once it is `step`'s accepted one and then its refused
 -- first piece.
 use mathlib.Core.Path.{_≡_, refl, ap, sym, _∙_}
-use mathlib.Core.Bool.{Bool, true, false}
+use mathlib.Core.Bool.{Bool, true}
 use mathlib.Core.List.{List, []}
 use mathlib.Core.Option.{Option, none, some, Option·map}
-use Prim.Native.Nat.{ℕ, _<_, _^_, min}
+use Prim.Native.Nat.{ℕ, min}
 use native.Mathlib.Nat.{add-zero, sub-zero}
-use native.Mathlib.Omega.{arith}
 use lib.ListN.{length}
-use lib.Seq.{getD-set-same}
 use Rattle.regionmap.specs.Map.{runLeft, place, pieceSize}
 use Rattle.completion.specs.declared.Reply.{Reply}
 use Rattle.model.specs.declared.Lengths.{Lengths}
 use Rattle.model.specs.declared.Kind.{Kind}
 use Rattle.model.specs.declared.Split.{Split}
-use Rattle.model.specs.declared.Awaits.{Awaits}
 use Rattle.model.specs.declared.Awaits.the-variants.{Piece as AwaitsPiece}
 use Rattle.model.specs.declared.Row.{Row}
 use Rattle.model.specs.declared.Request.{Request}
 use Rattle.model.specs.declared.Asked.{Asked}
 use Rattle.model.specs.declared.Asked.the-variants.{Yes}
 use Rattle.model.specs.declared.Call.the-variants.{Answer as Answers}
-use Rattle.model.specs.State.{Region, Owner.host, State, freed}
+use Rattle.model.specs.State.{Region, Owner.host, State}
 use Rattle.step.specs.Questions.{regionAt}
 use Rattle.step.specs.Rules.{opOf, firstOf, rangeOf, pieceOf, pieceLength, errorOf, bufferAs, Input.answered as fedAnswer}
 use Rattle.step.specs.Step.{keptBy, poisonWith, freeing, begun, queueTag, topOf, rowAt, rowOf, claimedBy, accepted, bytesAt, planOf, verdictOf, submitted, settled, fateOf, called, step}
@@ -29,13 +26,13 @@ use Rattle.step.specs.Sound.{Sound}
 use Rattle.step.specs.Run.{leave}
 use Rattle.step.specs.Lists.{HostMay}
 use Rattle.step.proofs.Answers.{Passed}
-use Rattle.step.proofs.Taken.{top-row}
-use Rattle.step.proofs.AloneTags.{row-of-tag}
 use Rattle.step.proofs.Histories.{leaves}
 use Rattle.rusttable.specs.Table.{IoBuf, RawError, Error, Req, Submitted.Taken, Submitted.Refused, Issued.Reject}
 use Rattle.rusttable.specs.Functions.{indexIn, withTable, returned, whole, abort, submit, toldAs, issuedWith}
 use Rattle.rusttable.specs.Domain.{compared}
-use Rattle.rusttable.specs.AsStep.{bufOf, backOf, splitOf, tableOf, storeOf, submitterOf, pieceIn, inFlight, refusalOf, refusedError, reqAs, issuedAs, Submits}
+use Rattle.rusttable.specs.AsStep.{bufOf, backOf, splitOf, tableOf, storeOf, submitterOf, inFlight, refusalOf, refusedError, reqAs, issuedAs, Submits}
+use Rattle.rusttable.proofs.Pieces.{flies}
+use Rattle.rusttable.proofs.Issuing.{row-index, claimed-row}
 use Rattle.rusttable.proofs.Aborting.{aborted, whole-back, rejects-with}
 use Rattle.rusttable.proofs.Within.{called-step, Found, found-under}
 use Rattle.rusttable.proofs.Leaving.{left-table}
@@ -83,22 +80,16 @@ module _ (s : State) (i : Sound s) (q : Request) (p : Passed s q) (k : Kind) (st
     at-sound : Sound at
     at-sound = leaves after pool sound (may .count)
 
-    small : top < 2 ^ 32
-    small = let lt = top-row s i (p .room) in let most = i .numbers .most-depth in omega arith
-
-    index : rowOf tag ≡ top
-    index = row-of-tag top (rowAt s top .generation) small
-
-    row-index : indexIn tag ≡ top
+    index : indexIn tag ≡ top
     unfolding indexIn rowOf
-    row-index = index
+    index = row-index s i q p k starts
 
     abbrev row : Row
     row = rowAt at (rowOf tag)
 
     row-is : row ≡ claimedBy (rowAt s top .generation) (s .counts .submissions) k q
-    unfolding rowAt accepted leave
-    row-is = rw index (getD-set-same (s .rows) top (claimedBy (rowAt s top .generation) (s .counts .submissions) k q) (freed 0) (rw (i .rows) (top-row s i (p .room))))
+    unfolding rowAt leave
+    row-is = claimed-row s i q p k starts
 
     row-awaits : row .awaits ≡ AwaitsPiece k (begun (q .length))
     unfolding claimedBy
@@ -125,14 +116,12 @@ module _ (s : State) (i : Sound s) (q : Request) (p : Passed s q) (k : Kind) (st
     state-is : withTable (submitterOf s n) (abort (tableOf after) top) ≡ submitterOf left n
     unfolding withTable submitterOf storeOf accepted leave freeing poisonWith
     state-is =
-        let same : indexIn tag ≡ top = row-index in
         ap (withTable (submitterOf s n))
-        ((λ j. abort (sym (left-table after sound pool may) j) (sym same j)) ∙ aborted at at-sound m tag (its-row .names-row) k (begun (q .length)) row-awaits refl raw back)
+        ((λ j. abort (sym (left-table after sound pool may) j) (sym index j)) ∙ aborted at at-sound m tag (its-row .names-row) k (begun (q .length)) row-awaits refl raw back)
 
     -- the buffer that the queue gives back, at its whole length
     in-flight : inFlight at tag ≡ bufOf at (row .buffer) (pieceLength (planOf (regionAt at (row .handle))) k (begun (q .length)))
-    unfolding inFlight pieceIn
-    in-flight = ap (λ (x : Awaits). bufOf at (row .buffer) (pieceIn at row x)) row-awaits
+    in-flight = flies at tag row refl k (begun (q .length)) row-awaits
 
     split-is : split ≡ splitOf (planOf (regionAt at (row .handle))) k (begun (q .length))
     unfolding accepted leave regionAt

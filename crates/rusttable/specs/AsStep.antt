@@ -308,6 +308,9 @@ pub record AsStep : Type 0 where
       («read_page» (submitterOf s issued) (q .handle) (posOf q) (bufOf s (q .buffer) (q .length)) (q .tag)
       (QueueRefuses raw (returned back (inFlight (leave (step s l (Call.ReadPage q) .0) pool) t))))
       (step (leave (step s l (Call.ReadPage q) .0) pool) l (Call.Answer t (refusalOf raw) back flushes))
+  -- what the queue has under a tag is the piece that it was handed, the one of the reply (issuedAs, finishAs), with the bytes that the host leaves there
+  pub in-flight : (s : State) (l : Lengths) (c : Call) → Sound s → (t : ℕ) (offset : Offset) (count b : ℕ) → step s l c .1 ≡ Reply.Piece t offset count b
+      → inFlight (step s l c .0) t ≡ bufOf (step s l c .0) b count
   -- `Table::finish`, of a count or an error; the flush count is the answer's
   pub finish : (before : Option ℕ) (s : State) (l : Lengths) (t : ℕ) (result : RawResult) (back : Bool) (flushes : ℕ) → Sound s
       → InDomain before s l (Call.Answer t (answerOf result) back flushes)
