@@ -1,7 +1,7 @@
 -- The Rust's map is document 01's: the loop of `run_of` brackets the first run that starts past the position, and in ascending starts the run before that one is
 -- the position's. By induction over the turns of the loop, and over the runs.
 use mathlib.Core.Path.{_≡_, refl, sym, ap, _∙_, subst}
-use mathlib.Core.Bool.{Bool, true, false}
+use mathlib.Core.Bool.{true}
 use mathlib.Core.List.{List, [], _∷_}
 use Prim.Native.Nat.{ℕ, zero, suc, _+_, _-_, _/_, _≤_, _<_, min}
 use native.Mathlib.Nat.{not-suc-le-zero, le-refl, le-trans, le-of-suc-le-suc, sub-zero}
@@ -20,12 +20,6 @@ use Rattle.rusttable.specs.RegionMap.{run, searched, «run_of», locate,
 abbrev at : List Run → ℕ → Run
 at xs j = getD xs j (record { start = 0; offset = 0 })
 
--- two that go by one test
-alike : {A : Type 0} (t : Bool) {x x′ y y′ : A} → (t ≡ true → x ≡ x′) → y ≡ y′ → pick t x y ≡ pick t x′ y′
-unfolding pick
-alike true e f = e refl
-alike false e f = f
-
 -- ---- the loop
 
 -- of n runs the one before lo starts not past p, and the one at hi past p
@@ -36,13 +30,15 @@ record Bracket (xs : List Run) (p lo hi : ℕ) : Type 0 where
   passed : hi < length xs → p < at xs hi .start
 
 module _ (m : Map) (p : ℕ) where
-  abbrev Met : ℕ → Type 0
-  Met lo = Bracket (m .more) p lo lo
+  -- the loop is over
+  record Met (z : ℕ × ℕ) : Type 0 where
+    between : Bracket (m .more) p (z .0) (z .1)
+    over : z .1 ≤ z .0
 
   -- so many turns are enough for the runs that are left
   bracketed : (turns lo hi : ℕ) → hi ≤ lo + turns → Bracket (m .more) p lo hi → Met (searched turns m p lo hi)
   unfolding searched run
-  bracketed zero lo hi few b = subst (Bracket (m .more) p lo) (omega (arith, b .ordered)) b
+  bracketed zero lo hi few b = record { between = b; over = omega (arith, few) }
   bracketed (suc turns) lo hi few b =
       by-pick (ltb lo hi) Met
       (λ more.
@@ -52,20 +48,7 @@ module _ (m : Map) (p : ℕ) where
       (record { ordered = omega (arith, below); among = b .among; reached = λ j e. subst (λ (x : ℕ). at (m .more) x .start ≤ p) (omega (arith, e)) (leb-true _ p reached); passed = b .passed }))
       (λ past. bracketed turns lo (lo + (hi - lo) / 2) (omega (arith, below))
       (record { ordered = omega (arith, below); among = omega (arith, b .among, below); reached = b .reached; passed = λ l. leb-false _ p past })))
-      (λ none. subst (Bracket (m .more) p lo) (omega (arith, b .ordered, ltb-false lo hi none)) b)
-
-  -- and more than enough change nothing
-  enough : (turns more lo hi : ℕ) → hi ≤ lo + turns → turns ≤ more → searched more m p lo hi ≡ searched turns m p lo hi
-  unfolding searched pick
-  enough zero zero lo hi few le = refl
-  enough zero (suc more) lo hi few le = rw (le-ltb lo hi (omega arith)) refl
-  enough (suc turns) zero lo hi few le = absurd (not-suc-le-zero le)
-  enough (suc turns) (suc more) lo hi few le =
-      alike (ltb lo hi)
-      (λ left.
-      let below = ltb-true lo hi left in
-      rw (enough turns more (lo + (hi - lo) / 2 + 1) hi (omega (arith, below)) (le-of-suc-le-suc le), enough turns more lo (lo + (hi - lo) / 2) (omega (arith, below)) (le-of-suc-le-suc le)) refl)
-      refl
+      (λ none. record { between = b; over = ltb-false lo hi none })
 
 -- ---- the run
 
@@ -110,10 +93,13 @@ module _ (m : Map) (p : ℕ) where
   count = length (m .more)
 
   abbrev lo : ℕ
-  lo = searched count m p 0 count
+  lo = searched count m p 0 count .0
+
+  ended : Met m p (searched count m p 0 count)
+  ended = bracketed m p count 0 count (omega arith) (record { ordered = omega arith; among = le-refl count; reached = λ j e. absurd (omega arith); passed = λ l. absurd (omega arith) })
 
   met : Bracket (m .more) p lo lo
-  met = bracketed m p count 0 count (omega arith) (record { ordered = omega arith; among = le-refl count; reached = λ j e. absurd (omega arith); passed = λ l. absurd (omega arith) })
+  met = subst (Bracket (m .more) p lo) (omega (arith, ended .over, ended .between .ordered)) (ended .between)
 
   -- `match lo { 0 => (0, self.first), k => self.run(k - 1) }`
   before-is : (k : ℕ) → pick (eqb k 0) (0, m .first) (run m (k - 1)) ≡ (runBefore (firstRun m) (m .more) k .start, runBefore (firstRun m) (m .more) k .offset)
@@ -171,6 +157,6 @@ map-as-rust = record {
   run-end = λ m law pos. end-by m pos (run-of m law pos) (law .within);
   run-left = λ m law pos. ap (λ (e : ℕ). e - pos) (end-by m pos (run-of m law pos) (law .within));
   locate-is = λ m law pos len. place-by m pos (run-of m law pos) len;
-  loop-ends = λ m pos turns le. enough m pos (length (m .more)) turns 0 (length (m .more)) (omega arith) le;
+  loop-ends = λ m pos. le-ltb _ _ (ended m pos .over);
   begins = begins;
 }

@@ -283,8 +283,8 @@ isSetting (Call.ReportPoison cause) = true
 pub record AsStep : Type 0 where
   -- `Table::new`
   pub new : (o : Opening) (plans : List Plan) (l : Lengths) (pool : List ℕ) → rustNew (o .depth) ≡ tableOf (opened o plans l pool)
-  -- `Submitter::write`, with a queue that takes the first piece; and with one that refuses it at once: in step the answer that follows. Between the
-  -- two the host writes as it may, into a read's piece too, and the queue gives the buffer back as it lies then.
+  -- `Submitter::write`, with a queue that takes the first piece; and with one that refuses it at once: in step the answer that follows. Between
+  -- the two the host writes as it may, into a read's piece too, and the queue gives the buffer back as it lies then.
   pub write : (before : Option ℕ) (s : State) (l : Lengths) (q : Request) (issued : ℕ) → Sound s → InDomain before s l (Call.Write q)
       → Submits issued true (bufOf s (q .buffer) (q .length))
       (rustWrite (submitterOf s issued) (q .handle) (posOf q) (bufOf s (q .buffer) (q .length)) (q .durable) (q .tag) Taken) (step s l (Call.Write q))
@@ -308,9 +308,9 @@ pub record AsStep : Type 0 where
       («read_page» (submitterOf s issued) (q .handle) (posOf q) (bufOf s (q .buffer) (q .length)) (q .tag)
       (QueueRefuses raw (returned back (inFlight (leave (step s l (Call.ReadPage q) .0) pool) t))))
       (step (leave (step s l (Call.ReadPage q) .0) pool) l (Call.Answer t (refusalOf raw) back flushes))
-  -- what the queue has under a tag is the piece that it was handed, the one of the reply (issuedAs, finishAs), with the bytes that the host leaves there
-  pub in-flight : (s : State) (l : Lengths) (c : Call) → Sound s → (t : ℕ) (offset : Offset) (count b : ℕ) → step s l c .1 ≡ Reply.Piece t offset count b
-      → inFlight (step s l c .0) t ≡ bufOf (step s l c .0) b count
+  -- what the queue has under a tag is the piece that it was handed, the one of the reply (issuedAs, finishAs)
+  pub in-flight : (s : State) (l : Lengths) (c : Call) → Sound s → (t : ℕ) (offset : Offset) (count b : ℕ)
+      → step s l c .1 ≡ Reply.Piece t offset count b → inFlight (step s l c .0) t ≡ bufOf (step s l c .0) b count
   -- `Table::finish`, of a count or an error; the flush count is the answer's
   pub finish : (before : Option ℕ) (s : State) (l : Lengths) (t : ℕ) (result : RawResult) (back : Bool) (flushes : ℕ) → Sound s
       → InDomain before s l (Call.Answer t (answerOf result) back flushes)

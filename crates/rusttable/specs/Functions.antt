@@ -1,7 +1,7 @@
 -- The Rust's functions on values: each takes what the Rust's has in its hands and returns it as the Rust leaves it, in the Rust's order of tests and
--- statements and under its names, each with its file. A `&mut self` goes in and comes out. Assertions and busy marks are left out. The map's functions
--- are in RegionMap. Not in docs/src, and so as document 01 restates them: `settle_write`, `settle_read`, `durable_receipt`, `in_range` (settle.rs),
--- the gate (gate.rs) with `retired_error` (lifecycle.rs), the pool's `owns` and IoBuf's `set_len` (store_io_buf).
+-- statements and under its names, each with its file. A `&mut self` goes in and comes out. Assertions and busy marks are left out. The map's
+-- functions are in RegionMap. Not in docs/src, and so as document 01 restates them: `settle_write`, `settle_read`, `durable_receipt`, `in_range`
+-- (settle.rs), the gate (gate.rs) with `retired_error` (lifecycle.rs), the pool's `owns` and IoBuf's `set_len` (store_io_buf).
 use mathlib.Core.Bool.{Bool, true, false, not, _&&_, _||_}
 use mathlib.Core.List.{List, [], _∷_, _++_}
 use mathlib.Core.Option.{Option, none, some, Option·map}
