@@ -2,7 +2,7 @@
 -- piece or refuses it; of a no it rejects, with the refusal's error.
 use mathlib.Core.Path.{_≡_, refl}
 use mathlib.Core.Bool.{Bool, true, false, _&&_}
-use mathlib.Core.List.{[]}
+use mathlib.Core.List.{List, []}
 use mathlib.Core.Option.{Option, some}
 use Prim.Native.Nat.{ℕ, _+_, _^_, min}
 use native.Mathlib.Omega.{arith}
@@ -27,11 +27,13 @@ use Rattle.step.specs.Questions.{regionAt, heldAt, firstNo}
 use Rattle.step.specs.Rules.{firstOf, rangeOf, opOf, errorOf}
 use Rattle.step.specs.Step.{begun, queueTag, topOf, rowAt, accepted, planOf, verdictOf, submitted, step}
 use Rattle.step.specs.Sound.{Sound}
+use Rattle.step.specs.Run.{leave}
+use Rattle.step.specs.Lists.{HostMay}
 use Rattle.step.proofs.Answers.{Passed}
 use Rattle.rusttable.specs.Table.{IoBuf, RawError, Error, Submitter, Req, Submitted, Submitted.Taken, Submitted.Refused, Issued}
-use Rattle.rusttable.specs.Functions.{ready, submit, issuedWith, rejected}
+use Rattle.rusttable.specs.Functions.{ready, returned, submit, issuedWith, rejected}
 use Rattle.rusttable.specs.Domain.{compared}
-use Rattle.rusttable.specs.AsStep.{bufOf, errorAs, splitOf, tableOf, submitterOf, refusalOf, refusedError, reqAs, issuedAs, Submits}
+use Rattle.rusttable.specs.AsStep.{bufOf, errorAs, splitOf, tableOf, submitterOf, inFlight, refusalOf, refusedError, reqAs, issuedAs, Submits}
 use Rattle.rusttable.proofs.Submitting.{settledAs, taken-is, refused-is}
 
 -- an answer no
@@ -109,10 +111,11 @@ module _ (s : State) (q : Request) (n : ℕ) (k : Kind) (w : Bool) (error : Opti
 
       pub refused-by : (Passed s q → (raw : Option RawError) → error raw ≡ refusedError (rangeOf (planOf region) k) (opOf k) (errorOf (refusalOf raw)))
           → (l : Lengths) (raw : Option RawError) (back : Bool) (m : ℕ) (a : Asked) → Answered a → Sound (settledAs s k q a .0)
-          → (t : ℕ) (o : Offset) (c b : ℕ) → settledAs s k q a .1 ≡ piece t o c b → compared (step (settledAs s k q a .0) l (Answers t (refusalOf raw) back m) .1) ≡ true
-          → Submits n w given (rust (Refused raw back)) (step (settledAs s k q a .0) l (Answers t (refusalOf raw) back m))
+          → (t : ℕ) (o : Offset) (c b : ℕ) → settledAs s k q a .1 ≡ piece t o c b → (pool : List ℕ) → HostMay (settledAs s k q a .0) pool
+          → compared (step (leave (settledAs s k q a .0) pool) l (Answers t (refusalOf raw) back m) .1) ≡ true
+          → Submits n w given (rust (Refused raw (returned back (inFlight (leave (settledAs s k q a .0) pool) t)))) (step (leave (settledAs s k q a .0) pool) l (Answers t (refusalOf raw) back m))
       unfolding Answered submitted verdictOf
-      refused-by same-error l raw back m Yes answer sound t o c b e h =
+      refused-by same-error l raw back m Yes answer sound t o c b e pool may h =
           let same : t ≡ queueTag (topOf (s .free)) (rowAt s (topOf (s .free)) .generation) = cc in
-          rw (same, answer .1 (Refused raw back)) (refused-is s i q (answer .0) k starts n w l sound raw back m (rw same at h) error (same-error (answer .0) raw))
-      refused-by same-error l raw back m (No f) answer sound t o c b e h = let z : _≡_ {A = ℕ} 0 1 = cc in absurd (omega arith)
+          rw (same, answer .1) (refused-is s i q (answer .0) k starts n w l sound pool may raw back m (rw same at h) error (same-error (answer .0) raw))
+      refused-by same-error l raw back m (No f) answer sound t o c b e pool may h = let z : _≡_ {A = ℕ} 0 1 = cc in absurd (omega arith)

@@ -6,6 +6,7 @@ use Rattle.rusttable.proofs.Finishing.{finish-square}
 use Rattle.rusttable.proofs.RefusedNext.{refused-next-square}
 use Rattle.rusttable.proofs.Aborting.{abort-square}
 use Rattle.rusttable.proofs.Taking.{take-square}
+use Rattle.rusttable.proofs.InFlight.{in-flight}
 use Rattle.rusttable.proofs.Writing.{write-square, write-refused-square}
 use Rattle.rusttable.proofs.Reading.{read-square, read-refused-square}
 use Rattle.rusttable.specs.Domain.{knownHandle}
@@ -15,9 +16,10 @@ unfolding knownHandle
 as-step = record {
   new = new-table;
   write = λ before s l q issued i d. write-square s l q issued i (d .handle) (d .numbers);
-  write-refused = λ before s l q issued i d t offset count b e raw back flushes d′. write-refused-square s l q issued i (d .handle) t offset count b e raw back flushes (d′ .numbers);
+  write-refused = λ before s l q issued i d t offset count b e pool may raw back flushes d′. write-refused-square s l q issued i (d .handle) t offset count b e pool may raw back flushes (d′ .numbers);
   read = λ before s l q issued i d. read-square s l q issued i (d .handle) (d .numbers);
-  read-refused = λ before s l q issued i d t offset count b e raw back flushes d′. read-refused-square s l q issued i (d .handle) t offset count b e raw back flushes (d′ .numbers);
+  read-refused = λ before s l q issued i d t offset count b e pool may raw back flushes d′. read-refused-square s l q issued i (d .handle) t offset count b e pool may raw back flushes (d′ .numbers);
+  in-flight = λ s l c i. in-flight s l c i;
   finish = λ before s l t result back flushes i d. finish-square s l t result back flushes i (d .numbers);
   refused-next = λ before s l t raw back flushes i d later. refused-next-square s l t raw back flushes i (d .numbers) later;
   abort = λ before s l t raw back flushes i d first. abort-square s l t raw back flushes i (d .numbers) first;

@@ -9,11 +9,11 @@ use native.Mathlib.Omega.{arith}
 use borrow.Author.Tests.{ltb-true, ltb-false, lt-ltb, le-ltb}
 use lib.Dec.{ltb, eqb}
 use lib.ListN.{length}
-use lib.Seq.{getD-set-same}
 use Rattle.layout.specs.Pick.{pick}
 use Rattle.layout.proofs.Tests.{not-both, true-or-false, and-left, and-right}
 use mathlib.Core.Logic.{_⊎_, inl, inr}
-use Rattle.regionmap.specs.Map.{runLeft, place, pieceSize}
+use Rattle.regionmap.specs.Map.{pieceSize}
+use Rattle.regionmap.specs.Laws.{Lawful}
 use Rattle.iobuf.specs.Turn.{turned}
 use Rattle.iobuf.proofs.Laws.{turn-laws}
 use Rattle.platform.specs.declared.Answer.{Answer}
@@ -27,26 +27,27 @@ use Rattle.model.specs.declared.Awaits.{Awaits}
 use Rattle.model.specs.declared.Awaits.the-variants.{Nothing, Piece, Flush as AwaitsFlush}
 use Rattle.model.specs.declared.Row.{Row}
 use Rattle.model.specs.declared.Call.the-variants.{Answer as Answers}
-use Rattle.model.specs.State.{Region, State, freed}
+use Rattle.model.specs.State.{Region, State}
 use Rattle.model.specs.Opening.{Plan}
 use Rattle.step.specs.Questions.{regionAt}
 use Rattle.step.specs.Rules.{leftOf, firstOf, pieceOf, pieceLength, Input.answered as fedAnswer, Fate, Fate.awaits as awaitsFate, bufferAs, turnedBack, lastPiece, abovePiece, isRefusal, firstRefused, isWhole, goesOn, splitAfter, pieceAnswered, answerRules, rules}
 use Rattle.step.specs.Step.{rowAt, rowOf, names, bytesAt, planOf, writesIn, awaitsNow, going, asksFor, settled, fateOf, called, step}
 use Rattle.step.specs.Sound.{Sound}
 use Rattle.step.proofs.Picked.{by-pick}
-use Rattle.step.proofs.Named.{named-below}
 use Rattle.step.proofs.Fates.{FateFits, fate-fits, goes-on-left}
 use Rattle.step.proofs.QuietRules.{piece-most}
 use Rattle.rusttable.specs.Table.{Result.Ok, Result.Err, IoBuf, RawResult, Live, Finish, Finish.Next, Submitter}
+use Rattle.rusttable.specs.RegionMap.{«run_left», locate}
 use Rattle.rusttable.specs.Functions.{«set_len», rotated, given, isSome, mapOk, lenOf, returned, put, withSplit, withTable, okIs, lastOne, nextOne, conclude, finish, «start_of», asRead, region}
 use Rattle.rusttable.specs.Domain.{compared}
 use Rattle.rusttable.specs.AsStep.{Finishes, bufOf, splitOf, liveOf, rowAs, tableOf, storeOf, submitterOf, pieceIn, inFlight, answerOf, finishAs}
+use Rattle.rusttable.proofs.RegionMap.{map-as-rust}
 use Rattle.rusttable.proofs.Rows.{Has, live-is, has-put, has-live}
 use Rattle.rusttable.proofs.Handed.{bufAs, own-onward, onward-put}
 use Rattle.rusttable.proofs.Concluding.{resultFor, isRefused, within, carried, operationOf}
 use Rattle.rusttable.proofs.Carried.{last-ended, carried-put, carried-settled}
 use Rattle.rusttable.proofs.Turning.{turn-whole, next-turned, order-back}
-use Rattle.rusttable.proofs.Pieces.{split-none, split-some, Placed, long, placed, its-live, there, has, some-bytes, Told, kind-ends}
+use Rattle.rusttable.proofs.Pieces.{split-none, split-some, Placed, row-going, its-place, long, placed, its-live, there, has, some-bytes, Told, kind-ends}
 use Rattle.rusttable.proofs.Within.{called-step, found-under}
 
 and-false : (a : Bool) → (a && false) ≡ false
@@ -248,19 +249,29 @@ module _ (s : State) (i : Sound s) (n t : ℕ) (found : names (rowAt s (rowOf t)
       writes-alike (Reads a b) z = refl
 
       row-after : rowAt after (rowOf t) .awaits ≡ Piece k later
-      unfolding rowAt going awaitsNow
-      row-after = ap (λ (x : Row). x .awaits) (getD-set-same (s .rows) (rowOf t) (awaitsNow row (Piece k later)) (freed 0) (rw (i .rows) (named-below s i t found)))
+      unfolding awaitsNow
+      row-after = ap (λ (x : Row). x .awaits) (row-going s t found (Piece k later) turn)
 
       abbrev its-region : Region
       its-region = regionAt s (row .handle)
 
-      offset-alike : place (its-region .map) («start_of» k + (sp .done + piece)) ≡ pieceOf (g .map) (firstOf k .0) later .offset .0
-      unfolding pieceOf planOf splitAfter
-      offset-alike = rw (start-alike k) refl
+      -- the Rust's map is document 01's
+      its-map : Lawful (its-region .map)
+      its-map = i .each (row .handle) (its-place s i t found k sp awaits .region) .lawful
 
-      count-alike : min (runLeft (its-region .map) («start_of» k + (sp .done + piece))) (leftOf sp - min piece (leftOf sp)) ≡ pieceLength g k later
+      abbrev pos : ℕ
+      pos = «start_of» k + (sp .done + piece)
+
+      abbrev next : ℕ
+      next = min («run_left» (its-region .map) pos) (leftOf sp - min piece (leftOf sp))
+
+      offset-alike : locate (its-region .map) pos next ≡ pieceOf (g .map) (firstOf k .0) later .offset .0
+      unfolding pieceOf planOf splitAfter
+      offset-alike = map-as-rust .locate-is (its-region .map) its-map pos next ∙ rw (start-alike k) refl
+
+      count-alike : next ≡ pieceLength g k later
       unfolding pieceLength pieceOf planOf pieceSize splitAfter
-      count-alike = rw (start-alike k, rest-alike) refl
+      count-alike = rw (map-as-rust .run-left (its-region .map) its-map pos, start-alike k, rest-alike) refl
 
       buffer-alike : (m : ℕ) → m ≡ pieceLength g k later → «set_len» (rotated («set_len» buf (sp .total)) piece) m ≡ bufOf after (row .buffer) (pieceLength g k later)
       unfolding bufOf splitAfter

@@ -41,7 +41,7 @@ use Rattle.rusttable.specs.Functions.{isSome, returned, withTable, withS
 use Rattle.rusttable.specs.Domain.{compared, knownHandle, InDomain}
 use Rattle.rusttable.specs.AsStep.{bufOf, storeOf, submitterOf, inFlight, flushedOf, posOf, isLater, finishAs, issuedAs, Finishes, Submits, isSetting}
 use Rattle.rusttable.specs.Histories.{Handed, Handed.ToWrite, Handed.ToReadPage, Handed.ToFinish, Handed.ToRefusedNext, Handed.ToFlushed, Handed.ToNext, Handed.ToRegion, Handed.ToPoison, HandedBack, HandedBack.submits, HandedBack.finishes, HandedBack.takes}
-use Rattle.rusttable.specs.Histories.{withIssued, rustStep, rustRun, rustOpened, asRust, isSubmission, refusal, refusedBy, refusesFirst, verdict, answerTo, handedBy, handed, comesTo, answerSays, saidBy, said, MadeIn, HistoryIn, Agrees, AsHistory}
+use Rattle.rusttable.specs.Histories.{withIssued, rustStep, rustRun, rustOpened, asRust, isSubmission, refusal, refusedBy, verdict, answerTo, handedBy, handed, comesTo, answerSays, saidBy, said, MadeIn, HistoryIn, Agrees, AsHistory}
 use Rattle.rusttable.proofs.Within.{called-step}
 use Rattle.rusttable.proofs.AsStep.{as-step}
 use Rattle.rusttable.proofs.LaterPieces.{later-piece}
@@ -49,15 +49,19 @@ use Rattle.rusttable.proofs.Refusing.{answer-is, refusal-is, tag-issued
 
 -- ---- where the Rust is
 
+-- an event refuses a first piece: the event before submitted it
+unfoldable refusesFirst : Bool → State → Made → Bool
+refusesFirst after s m = isSome (refusedBy s m) && after
+
 ahead : Bool → State → List Event → State
 ahead after s [] = s
-ahead after s (e ∷ es) = pick (refusesFirst after (e .made)) (next s e) s
+ahead after s (e ∷ es) = pick (refusesFirst after (leave s (e .leaves)) (e .made)) (next s e) s
 
 -- only behind a submission
 not-ahead : (s : State) (es : List Event) → ahead false s es ≡ s
 unfolding ahead refusesFirst pick
 not-ahead s [] = refl
-not-ahead s (e ∷ es) = by-test (isSome (refusedBy (e .made)))
+not-ahead s (e ∷ es) = by-test (isSome (refusedBy (leave s (e .leaves)) (e .made)))
   where
     by-test : (b : Bool) → pick (b && false) (next s e) s ≡ s
     by-test true = refl
@@ -66,7 +70,7 @@ not-ahead s (e ∷ es) = by-test (isSome (refusedBy (e .made)))
 ahead-comes : (z : State × Reply) (es : List Event) → ahead true (z .0) es ≡ comesTo z es .0
 unfolding ahead refusesFirst comesTo pick
 ahead-comes z [] = refl
-ahead-comes z (e ∷ es) = by-test (isSome (refusedBy (e .made)))
+ahead-comes z (e ∷ es) = by-test (isSome (refusedBy (leave (z .0) (e .leaves)) (e .made)))
   where
     by-test : (b : Bool) → pick (b && true) (next (z .0) e) (z .0) ≡ pick b (next (z .0) e, replyTo (z .0) e) z .0
     by-test true = refl
@@ -116,7 +120,7 @@ looked-none s l x = by-pick _ (λ (y : Reply). tagGiven y ≡ none) (λ same. by
 -- ---- an event
 
 module _ (after : Bool) (before : Option ℕ) (s : State) (i : Sound s) (later : Later after before s) (issued : ℕ) (pool : List ℕ) (host : HostMay s pool) (l : Lengths) (es : List Event)
-    (behind : (after′ : Bool) (before′ : Option ℕ) (s′ : State) (issued′ : ℕ) → Sound s′ → Later after′ before′ s′ → HistoryIn after′ before′ s′ es → Goal after′ s′ es issued′) where
+    (behind : (after′ : Bool) (before′ : Option ℕ) (s′ : State) (issued′ : ℕ) → Sound s′ → Later after′ before′ s′ → HistoryIn before′ s′ es → Goal after′ s′ es issued′) where
   abbrev left : State
   left = leave s pool
 
@@ -128,7 +132,7 @@ module _ (after : Bool) (before : Option ℕ) (s : State) (i : Sound s) (later :
   same n = λ j. record { store = storeOf s n; table = sym (as-step .leaves s pool i host) j }
 
   -- behind an event that is no submission
-  onward : (c : Call) (n : ℕ) → ((t : ℕ) → tagGiven (step left l c .1) ≡ some t → isLater (rowAt (step left l c .0) (rowOf t) .awaits) ≡ true) → HistoryIn false (tagGiven (step left l c .1)) (step left l c .0) es
+  onward : (c : Call) (n : ℕ) → ((t : ℕ) → tagGiven (step left l c .1) ≡ some t → isLater (rowAt (step left l c .0) (rowOf t) .awaits) ≡ true) → HistoryIn (tagGiven (step left l c .1)) (step left l c .0) es
       → Agrees (rustRun (submitterOf (step left l c .0) n) (handed false (step left l c .0) es)) (run (step left l c .0) es) (said false (step left l c .0) es)
   onward c n next-later h =
       let to = step left l c .0 in
@@ -143,13 +147,13 @@ module _ (after : Bool) (before : Option ℕ) (s : State) (i : Sound s) (later :
   from-left hs to says = subst (λ (r : Submitter). Agrees (rustRun r hs) to says) (sym (same issued))
 
   abbrev Stepped : Made → Type 0
-  Stepped m = Agrees (rustRun (submitterOf (pick (refusesFirst after m) (done left l m .0) s) issued) (handedBy after left m (verdict es) ++ handed (isSubmission m) (done left l m .0) es))
+  Stepped m = Agrees (rustRun (submitterOf (pick (refusesFirst after left m) (done left l m .0) s) issued) (handedBy after left m (verdict (done left l m .0) es) ++ handed (isSubmission m) (done left l m .0) es))
       (run (done left l m .0) es) (saidBy after left m (done left l m) es ++ said (isSubmission m) (done left l m .0) es)
 
   -- ---- a submission
 
   submission : (c : Call) (w : Bool) (buf : IoBuf) (rust : Submitter × Issued) (hand : Handed) → rustStep (submitterOf left issued) hand ≡ (rust .0, submits (rust .1) ∷ []) → Submits issued w buf rust (comesTo (step left l c) es)
-      → HistoryIn true (tagGiven (step left l c .1)) (step left l c .0) es
+      → HistoryIn (tagGiven (step left l c .1)) (step left l c .0) es
       → Agrees (rustRun (submitterOf s issued) (hand ∷ handed true (step left l c .0) es)) (run (step left l c .0) es)
       ((Option·map submits (issuedAs w (comesTo (step left l c) es .0) buf (comesTo (step left l c) es .1)) ∷ []) ++ said true (step left l c .0) es)
   submission c w buf rust hand is z h =
@@ -160,26 +164,26 @@ module _ (after : Bool) (before : Option ℕ) (s : State) (i : Sound s) (later :
       (ap (λ (y : Submitter × List HandedBack). map some (y .1)) is ∙ ap (λ (o : Option Issued). Option·map submits o ∷ []) (z .reply))
       (behind true (tagGiven (step left l c .1)) to issued (keeps left l c sound-left) (λ t no e. absurd (not-both refl no)) h))
 
-  on-write : (q : Request) → InDomain before left l (Write q) → HistoryIn true (tagGiven (step left l (Write q) .1)) (step left l (Write q) .0) es → Stepped (calls (Write q))
+  on-write : (q : Request) → InDomain before left l (Write q) → HistoryIn (tagGiven (step left l (Write q) .1)) (step left l (Write q) .0) es → Stepped (calls (Write q))
   unfolding done refusesFirst refusedBy isSome pick handedBy saidBy isSubmission rustStep
   on-write q d h =
       let buf = bufOf left (q .buffer) (q .length) in
-      submission (Write q) true buf (rustWrite (submitterOf left issued) (q .handle) (posOf q) buf (q .durable) (q .tag) (verdict es)) (ToWrite (q .handle) (posOf q) buf (q .durable) (q .tag) (verdict es)) refl
+      submission (Write q) true buf (rustWrite (submitterOf left issued) (q .handle) (posOf q) buf (q .durable) (q .tag) (verdict (step left l (Write q) .0) es)) (ToWrite (q .handle) (posOf q) buf (q .durable) (q .tag) (verdict (step left l (Write q) .0) es)) refl
       (submitted left l (Write q) (d .numbers) true buf issued (rustWrite (submitterOf left issued) (q .handle) (posOf q) buf (q .durable) (q .tag)) (as-step .write before left l q issued sound-left d)
       (as-step .write-refused before left l q issued sound-left d) es h) h
 
-  on-read : (q : Request) → InDomain before left l (ReadPage q) → HistoryIn true (tagGiven (step left l (ReadPage q) .1)) (step left l (ReadPage q) .0) es → Stepped (calls (ReadPage q))
+  on-read : (q : Request) → InDomain before left l (ReadPage q) → HistoryIn (tagGiven (step left l (ReadPage q) .1)) (step left l (ReadPage q) .0) es → Stepped (calls (ReadPage q))
   unfolding done refusesFirst refusedBy isSome pick handedBy saidBy isSubmission rustStep
   on-read q d h =
       let buf = bufOf left (q .buffer) (q .length) in
-      submission (ReadPage q) false buf («read_page» (submitterOf left issued) (q .handle) (posOf q) buf (q .tag) (verdict es)) (ToReadPage (q .handle) (posOf q) buf (q .tag) (verdict es)) refl
+      submission (ReadPage q) false buf («read_page» (submitterOf left issued) (q .handle) (posOf q) buf (q .tag) (verdict (step left l (ReadPage q) .0) es)) (ToReadPage (q .handle) (posOf q) buf (q .tag) (verdict (step left l (ReadPage q) .0) es)) refl
       (submitted left l (ReadPage q) (d .numbers) false buf issued («read_page» (submitterOf left issued) (q .handle) (posOf q) buf (q .tag)) (as-step .read before left l q issued sound-left d)
       (as-step .read-refused before left l q issued sound-left d) es h) h
 
   -- ---- an answer
 
   module _ (t : ℕ) (a : Answer) (back : Bool) (flushes : ℕ) (d : InDomain before left l (Answers t a back flushes))
-      (h : HistoryIn false (tagGiven (step left l (Answers t a back flushes) .1)) (step left l (Answers t a back flushes) .0) es) where
+      (h : HistoryIn (tagGiven (step left l (Answers t a back flushes) .1)) (step left l (Answers t a back flushes) .0) es) where
     abbrev z : State × Reply
     z = step left l (Answers t a back flushes)
 
@@ -197,7 +201,7 @@ module _ (after : Bool) (before : Option ℕ) (s : State) (i : Sound s) (later :
         (ap (λ (y : Submitter × List HandedBack). map some (y .1)) is ∙ ap (λ (o : Option Finish). Option·map finishes o ∷ []) (f .reply)) (answer-on flushes))
 
     abbrev Answered : Bool → Result RawResult (Option RawError) → Type 0
-    Answered b r = Agrees (rustRun (submitterOf (pick (isSome (refusal r back) && b) (z .0) s) issued) (answerTo b left t back flushes r ++ handed false (z .0) es)) (run (z .0) es) (answerSays b z r ++ said false (z .0) es)
+    Answered b r = Agrees (rustRun (submitterOf (pick (isSome (refusal left t back r) && b) (z .0) s) issued) (answerTo b left t back flushes r ++ handed false (z .0) es)) (run (z .0) es) (answerSays b z r ++ said false (z .0) es)
 
     by-answer : (b : Bool) → after ≡ b → (r : Result RawResult (Option RawError)) → asRust a ≡ r → Answered b r
     unfolding refusal isSome pick answerTo answerSays rustStep withIssued withStore submitterOf storeOf rowAt leave
@@ -222,19 +226,19 @@ module _ (after : Bool) (before : Option ℕ) (s : State) (i : Sound s) (later :
 
   -- a call whose reply issues no piece
   other : (c : Call) (hand : Handed) (now : List (Option HandedBack)) → rustStep (submitterOf left issued) hand .0 ≡ submitterOf (step left l c .0) issued → map some (rustStep (submitterOf left issued) hand .1) ≡ now
-      → tagGiven (step left l c .1) ≡ none → HistoryIn false (tagGiven (step left l c .1)) (step left l c .0) es
+      → tagGiven (step left l c .1) ≡ none → HistoryIn (tagGiven (step left l c .1)) (step left l c .0) es
       → Agrees (rustRun (submitterOf s issued) (hand ∷ handed false (step left l c .0) es)) (run (step left l c .0) es) (now ++ said false (step left l c .0) es)
   other c hand now q says none-issued h =
       from-left _ _ _ (one-more (submitterOf left issued) (submitterOf (step left l c .0) issued) hand _ _ now _ q says (onward c issued (none-later c none-issued) h))
 
   setting : (c : Call) (j : ℕ) (g : Region) → isSetting c ≡ true → compared (step left l c .1) ≡ true → called left c ≡ marked left j g → ltb j (left .settings .regions) ≡ true
-      → HistoryIn false (tagGiven (step left l c .1)) (step left l c .0) es → Agrees (rustRun (submitterOf s issued) (ToRegion j g ∷ handed false (step left l c .0) es)) (run (step left l c .0) es) (said false (step left l c .0) es)
+      → HistoryIn (tagGiven (step left l c .1)) (step left l c .0) es → Agrees (rustRun (submitterOf s issued) (ToRegion j g ∷ handed false (step left l c .0) es)) (run (step left l c .0) es) (said false (step left l c .0) es)
   unfolding tagGiven rustStep
   setting c j g sets numbers is known h =
       let q = called-step left l c numbers ∙ is ∙ set-marked left l issued j g known in
       other c (ToRegion j g) [] (region-set left l issued c j g sets q) refl (ap (λ (y : State × Reply). tagGiven (y .1)) q) h
 
-  event : (m : Made) → MadeIn before left l m → HistoryIn (isSubmission m) (tagGiven (done left l m .1)) (done left l m .0) es → Stepped m
+  event : (m : Made) → MadeIn before left l m → HistoryIn (tagGiven (done left l m .1)) (done left l m .0) es → Stepped m
   unfolding done refusesFirst refusedBy isSome pick handedBy saidBy isSubmission MadeIn rustStep submitterOf withTable called knownHandle isSetting tagGiven
   event (calls (Write q)) d h = on-write q d h
   event (calls (ReadPage q)) d h = on-read q d h
@@ -258,11 +262,11 @@ module _ (after : Bool) (before : Option ℕ) (s : State) (i : Sound s) (later :
 
 -- ---- the history
 
-follows : (es : List Event) (after : Bool) (before : Option ℕ) (s : State) (issued : ℕ) → Sound s → Later after before s → HistoryIn after before s es → Goal after s es issued
+follows : (es : List Event) (after : Bool) (before : Option ℕ) (s : State) (issued : ℕ) → Sound s → Later after before s → HistoryIn before s es → Goal after s es issued
 unfolding ahead HistoryIn handed said run rustRun next replyTo submitterOf storeOf
 follows [] after before s issued i later h = record { state = refl; replies = refl }
 follows (e ∷ es) after before s issued i later h =
-    event after before s i later issued (e .leaves) (h .0) (e .lengths) es (λ after′ before′ s′ issued′. follows es after′ before′ s′ issued′) (e .made) (h .2) (h .3)
+    event after before s i later issued (e .leaves) (h .0) (e .lengths) es (λ after′ before′ s′ issued′. follows es after′ before′ s′ issued′) (e .made) (h .1) (h .2)
 
 pub as-history : AsHistory
 unfolding openedBy plansOf opened rustOpened submitterOf storeOf

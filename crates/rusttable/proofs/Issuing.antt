@@ -21,15 +21,18 @@ use Rattle.model.specs.declared.Request.{Request}
 use Rattle.model.specs.State.{Region, State, freed}
 use Rattle.step.specs.Questions.{regionAt}
 use Rattle.step.specs.Rules.{firstOf, pieceOf, pieceLength}
-use Rattle.step.specs.Step.{begun, queueTag, topOf, rowAt, durableAs, claimedBy, oneMore, accepted, bytesAt, planOf}
+use Rattle.step.specs.Step.{begun, queueTag, rowOf, topOf, rowAt, durableAs, claimedBy, oneMore, accepted, bytesAt, planOf}
 use Rattle.step.specs.Sound.{Sound}
 use Rattle.step.proofs.Answers.{Passed}
 use Rattle.step.proofs.Taken.{top-row}
 use Rattle.step.proofs.Buffers.{bytes-length}
+use Rattle.step.proofs.AloneTags.{row-of-tag}
 use Rattle.rusttable.specs.Table.{IoBuf, Live, Table, Req, Submitted}
 use Rattle.rusttable.specs.Table.{Row as RustRow}
+use Rattle.rusttable.specs.RegionMap.{«run_left», locate}
 use Rattle.rusttable.specs.Functions.{given, emptyRow, popped, claim, rowWith, withRows, withSplit, start, «set_split», withOrNot, submit, issue, «first_piece»}
 use Rattle.rusttable.specs.AsStep.{bufOf, splitOf, liveOf, rowAs, completionAs, tableOf, submitterOf}
+use Rattle.rusttable.proofs.RegionMap.{map-as-rust}
 use Rattle.rusttable.proofs.Lists.{map-set-alike}
 use Rattle.rusttable.proofs.Frames.{same-row}
 use Rattle.rusttable.proofs.Taking.{completions-alike}
@@ -57,6 +60,13 @@ module _ (s : State) (i : Sound s) (q : Request) (p : Passed s q) (k : Kind) (st
   room : q .length ≤ length (bytesAt s (q .buffer))
   room = let long = bytes-length s i (q .buffer) (p .buffer) in let fits = p .fits in omega arith
 
+  -- the Rust's map is document 01's
+  left-is : «run_left» (g .map) (q .offset .0) ≡ runLeft (g .map) (q .offset .0)
+  left-is = map-as-rust .run-left (g .map) (i .each (q .handle) (p .region) .lawful) (q .offset .0)
+
+  offset-is : locate (g .map) (q .offset .0) piece ≡ place (g .map) (q .offset .0)
+  offset-is = map-as-rust .locate-is (g .map) (i .each (q .handle) (p .region) .lawful) (q .offset .0) piece
+
   pub first-is : «first_piece» g (q .offset) buf ≡ record { offset = place (g .map) (q .offset .0); split = split; buf = bufOf s (q .buffer) piece }
   unfolding «first_piece» bufOf splitOf pick
   first-is = by-case (true-or-false (ltb piece (q .length)))
@@ -64,10 +74,10 @@ module _ (s : State) (i : Sound s) (q : Request) (p : Passed s q) (k : Kind) (st
       by-case : (ltb piece (q .length) ≡ true) ⊎ (ltb piece (q .length) ≡ false) → «first_piece» g (q .offset) buf ≡ record { offset = place (g .map) (q .offset .0); split = split; buf = bufOf s (q .buffer) piece }
       by-case (inl e) =
           let lt = ltb-true piece (q .length) e in
-          rw (e, piece-alike, ne-eqb piece (q .length) (λ z. omega arith), set-fits buf piece (let le = room in omega arith)) refl
+          rw (left-is, offset-is, e, piece-alike, ne-eqb piece (q .length) (λ z. omega arith), set-fits buf piece (let le = room in omega arith)) refl
       by-case (inr e) =
           let all : piece ≡ q .length = (let le = ltb-false piece (q .length) e in omega arith) in
-          rw (e, piece-alike, eq-eqb piece (q .length) all, all) refl
+          rw (left-is, offset-is, e, piece-alike, eq-eqb piece (q .length) all, all) refl
 
   -- ---- the row
 
@@ -128,6 +138,14 @@ module _ (s : State) (i : Sound s) (q : Request) (p : Passed s q) (k : Kind) (st
   pub same-bytes : (b : ℕ) → bytesAt after b ≡ bytesAt s b
   unfolding accepted bytesAt
   same-bytes b = refl
+
+  -- its row, under its queue tag
+  pub row-index : rowOf (queueTag top generation) ≡ top
+  row-index = row-of-tag top generation (let lt = top-row s i (p .room) in let most = i .numbers .most-depth in omega arith)
+
+  pub claimed-row : rowAt after (rowOf (queueTag top generation)) ≡ new
+  unfolding rowAt accepted
+  claimed-row = rw row-index (getD-set-same (s .rows) top new (freed 0) (rw (i .rows) (top-row s i (p .room))))
 
   new-row : rowAs after new ≡ startedRow split
   unfolding rowAs liveOf claimedBy withSplit accepted regionAt

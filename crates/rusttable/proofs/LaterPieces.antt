@@ -22,14 +22,20 @@ use Rattle.step.specs.Questions.{regionAt}
 use Rattle.step.specs.Rules.{splitAfter, Input.answered, Fate, Fate.away, Fate.awaits, Fate.ends, Fate.rejected}
 use Rattle.step.specs.Step.{rowAt, rowOf, names, awaitsNow, going, asksFor, rejection, settled, fateOf, called, step}
 use Rattle.step.specs.Sound.{Sound}
-use Rattle.step.proofs.AloneTags.{clash, live-in, names-live}
+use Rattle.step.proofs.AloneTags.{clash}
 use Rattle.step.proofs.Fates.{Follows, Fitting, FateFits, fate-fits}
-use Rattle.step.proofs.ProjectionSet.{row-here}
 use Rattle.step.specs.Alone.{tagGiven}
 use Rattle.rusttable.specs.Domain.{compared}
 use Rattle.rusttable.specs.AsStep.{isLater}
 use Rattle.rusttable.proofs.Within.{called-step, found-under}
-use Rattle.rusttable.proofs.Pieces.{some-bytes}
+use Rattle.rusttable.proofs.Pieces.{row-going, some-bytes}
+
+-- a rejection issues none
+pub none-issued : (g : Plan) (a : Awaits) (x : OsError) (b : Buffer) (u : ℕ) → tagGiven (rejection g a x b) ≡ some u → ⊥
+unfolding tagGiven rejection
+none-issued g Nothing x b u e = clash (cc)
+none-issued g (Piece k sp) x b u e = clash (cc)
+none-issued g (Flush ticket) x b u e = clash (cc)
 
 module _ (s : State) (i : Sound s) (t : ℕ) (found : names (rowAt s (rowOf t)) t ≡ true) where
   abbrev row : Row
@@ -41,12 +47,6 @@ module _ (s : State) (i : Sound s) (t : ℕ) (found : names (rowAt s (rowOf t)) 
   some-done k sp (Flush ticket) e f = absurd f
   some-done k sp (Piece k₀ sp₀) e f = let z = some-bytes s i t found k₀ sp₀ e in let q = ap (λ (x : Split). x .done) (f .1) in omega (arith, z, q)
 
-  none-issued : (g : Plan) (a : Awaits) (x : OsError) (b : Buffer) (u : ℕ) → tagGiven (rejection g a x b) ≡ some u → ⊥
-  unfolding tagGiven rejection
-  none-issued g Nothing x b u e = clash (cc)
-  none-issued g (Piece k sp) x b u e = clash (cc)
-  none-issued g (Flush ticket) x b u e = clash (cc)
-
   fate-later : (u : ℕ) (f : Fate) → FateFits s row f → tagGiven (settled s t row f .1) ≡ some u → isLater (rowAt (settled s t row f .0) (rowOf u) .awaits) ≡ true
   unfolding settled Fitting tagGiven asksFor isLater going awaitsNow
   fate-later u (away f) fits e = clash (cc)
@@ -57,8 +57,7 @@ module _ (s : State) (i : Sound s) (t : ℕ) (found : names (rowAt s (rowOf t)) 
   fate-later u (awaits (Piece k sp) bytes) fits e =
       let same : t ≡ u = cc in
       let to = going s (rowOf t) row (Piece k sp) bytes in
-      let at : rowAt to (rowOf t) ≡ awaitsNow row (Piece k sp) =
-      row-here s to (rowOf t) (row .buffer) (awaitsNow row (Piece k sp)) bytes (record { settings = refl; regions = refl; rows = refl; pool = refl }) (live-in s (rowOf t) (names-live row t found)) in
+      let at = row-going s t found (Piece k sp) bytes in
       ap (λ (n : ℕ). isLater (rowAt to (rowOf n) .awaits)) (sym same) ∙ ap (λ (r : Row). isLater (r .awaits)) at ∙ lt-ltb 0 (sp .done) (some-done k sp (row .awaits) refl (fits .0 .follows))
 
 pub later-piece : (s : State) (l : Lengths) (t : ℕ) (a : Answer) (back : Bool) (flushes : ℕ) → Sound s → compared (step s l (Answers t a back flushes) .1) ≡ true

@@ -4,11 +4,12 @@ use mathlib.Core.Logic.{_⊎_, inl, inr}
 use mathlib.Core.Bool.{Bool, true, false, not, _&&_, _||_}
 use mathlib.Core.List.{List, [], _∷_, map}
 use mathlib.Core.Option.{some}
-use Prim.Native.Nat.{ℕ, zero, suc, _-_, _≤_, _<_, _^_}
+use Prim.Native.Nat.{ℕ, zero, suc, _+_, _-_, _≤_, _<_, _^_}
 use native.Mathlib.Omega.{arith}
 use lib.Dec.{ltb, eqb}
 use lib.ListN.{getD, set, drop, replicate}
 use Rattle.layout.proofs.Tests.{not-both}
+use Rattle.regionmap.specs.Map.{runEnd, pieceSize}
 use Rattle.regionmap.proofs.Laws.{map-laws}
 use Rattle.iobuf.specs.Turn.{stretch}
 use Rattle.domain.specs.declared.Poisoned.{Poisoned}
@@ -45,6 +46,7 @@ use Rattle.step.proofs.ProjectionHost.{left-alike}
 use Rattle.rusttable.specs.Table.{Store}
 use Rattle.rusttable.specs.Functions.{«receipt_for», «durable_receipt», emptyRow, new}
 use Rattle.rusttable.specs.AsStep.{bufOf, backOf, completionAs, liveOf, rowAs, tableOf, Asserts, isSetting}
+use Rattle.rusttable.proofs.RegionMap.{map-as-rust}
 use Rattle.rusttable.proofs.Lists.{map-same, map-alike}
 use Rattle.rusttable.proofs.Pieces.{its-place, long, placed}
 
@@ -245,15 +247,21 @@ receipt-same store t need = λ j. record {
 
 pub piece-asserts : (s : State) (t : ℕ) (k : Kind) (sp : Split) → Sound s → names (rowAt s (rowOf t)) t ≡ true → rowAt s (rowOf t) .awaits ≡ Piece k sp
     → Asserts (regionAt s (rowAt s (rowOf t) .handle) .map) (firstOf k .0) sp (pieceLength (planOf (regionAt s (rowAt s (rowOf t) .handle))) k sp) (s .settings .capacity)
-unfolding pieceLength pieceOf planOf
+unfolding pieceLength pieceOf planOf runEnd
 piece-asserts s t k sp i found e =
     let p = placed s i t found k sp e in
     let region = regionAt s (rowAt s (rowOf t) .handle) in
-    let one = map-laws .one-piece (region .map) (i .each (rowAt s (rowOf t) .handle) (its-place s i t found k sp e .region) .lawful) (byteAt (firstOf k .0) (sp .done)) (leftOf sp) (omega (arith, p .left)) (omega (arith, p .left, p .in-data)) in
+    let at = byteAt (firstOf k .0) (sp .done) in
+    let sound = i .each (rowAt s (rowOf t) .handle) (its-place s i t found k sp e .region) in
+    let law = sound .lawful in
+    let one = map-laws .one-piece (region .map) law at (leftOf sp) (omega (arith, p .left)) (omega (arith, p .left, p .in-data)) in
+    let last = sound .on-card (at + (pieceSize (region .map) at (leftOf sp) - 1)) (omega (arith, one .some, one .inData, law .within)) in
     record {
       moves = omega (arith, one .some);
       most = omega (arith, one .most, p .left);
       room = rw (← long s i t found k sp e) (p .room);
+      rest = rw (map-as-rust .run-end (region .map) law at) (omega (arith, one .some, one .inData, one .uncrossed));
       in-data = one .inData;
-      in-run = one .uncrossed;
+      in-run = rw (map-as-rust .run-of (region .map) law at) (one .uncrossed);
+      unwrapped = rw (map-as-rust .locate-is (region .map) law at _) (omega (arith, last, one .consecutive (pieceSize (region .map) at (leftOf sp) - 1) (omega (arith, one .some)), one .some, i .numbers .card));
     }

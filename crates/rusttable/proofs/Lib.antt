@@ -1,6 +1,7 @@
 -- The Rust's functions are `step`'s, call by call.
 pub mod Lists
 pub mod Frames
+pub mod RegionMap
 pub mod Rows
 pub mod Handed
 pub mod Within
@@ -17,6 +18,7 @@ pub mod Issuing
 pub mod Asking
 pub mod Submitting
 pub mod Answering
+pub mod InFlight
 pub mod Writing
 pub mod Reading
 pub mod Leaving

@@ -20,14 +20,16 @@ use Rattle.model.specs.State.{State}
 use Rattle.model.specs.Opening.{Plan}
 use Rattle.step.specs.Questions.{byteAt, regionAt}
 use Rattle.step.specs.Rules.{leftOf, firstOf, lastOf, pieceOf, pieceLength, bufferAs, turnedBack, lastPiece, rangeStart, rangeEnd}
-use Rattle.step.specs.Step.{rowAt, rowOf, names, bytesAt, planOf}
+use Rattle.step.specs.Step.{rowAt, rowOf, names, bytesAt, awaitsNow, going, planOf}
 use Rattle.step.specs.Sound.{SplitFits, InTable, Sound}
 use Rattle.step.proofs.Named.{named-live, named-below}
 use Rattle.step.proofs.Buffers.{bytes-length}
+use Rattle.step.proofs.AloneTags.{live-in, names-live}
+use Rattle.step.proofs.ProjectionSet.{row-here}
 use Rattle.rusttable.specs.Table.{Live, Table}
 use Rattle.rusttable.specs.Table.{Row as RustRow}
 use Rattle.rusttable.specs.Functions.{withSplit, conclude}
-use Rattle.rusttable.specs.AsStep.{splitOf, liveOf, rowAs, tableOf, storeOf}
+use Rattle.rusttable.specs.AsStep.{bufOf, splitOf, liveOf, rowAs, tableOf, storeOf, pieceIn, inFlight}
 use Rattle.rusttable.proofs.Rows.{Has, has-live}
 use Rattle.rusttable.proofs.Handed.{bufAs}
 use Rattle.rusttable.proofs.Concluding.{resultFor, isRefused, within, carried, operationOf, read-ends, write-ends}
@@ -40,6 +42,18 @@ split-none g k sp e = ap (λ (b : Bool). pick b none (some sp)) (eq-eqb (pieceLe
 pub split-some : (g : Plan) (k : Kind) (sp : Split) → (pieceLength g k sp ≡ sp .total → ⊥) → splitOf g k sp ≡ some sp
 unfolding splitOf pick
 split-some g k sp ne = ap (λ (b : Bool). pick b none (some sp)) (ne-eqb (pieceLength g k sp) (sp .total) ne)
+
+-- a live row that goes on awaits something else
+pub row-going : (s : State) (t : ℕ) → names (rowAt s (rowOf t)) t ≡ true → (a : Awaits) (bytes : List ℕ) → rowAt (going s (rowOf t) (rowAt s (rowOf t)) a bytes) (rowOf t) ≡ awaitsNow (rowAt s (rowOf t)) a
+unfolding going
+row-going s t found a bytes =
+    let row = rowAt s (rowOf t) in
+    row-here s (going s (rowOf t) row a bytes) (rowOf t) (row .buffer) (awaitsNow row a) bytes (record { settings = refl; regions = refl; rows = refl; pool = refl }) (live-in s (rowOf t) (names-live row t found))
+
+-- what the queue has of it
+pub flies : (s : State) (t : ℕ) (row : Row) → rowAt s (rowOf t) ≡ row → (k : Kind) (sp : Split) → row .awaits ≡ Piece k sp → inFlight s t ≡ bufOf s (row .buffer) (pieceLength (planOf (regionAt s (row .handle))) k sp)
+unfolding inFlight pieceIn
+flies s t row at k sp e = rw at (ap (λ (a : Awaits). bufOf s (row .buffer) (pieceIn s row a)) e)
 
 -- the piece under way, of an operation of some kind and split, in a buffer of some capacity
 pub record Placed (g : Plan) (k : Kind) (sp : Split) (capacity : ℕ) : Type 0 where

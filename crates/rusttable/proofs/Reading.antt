@@ -1,6 +1,7 @@
 -- `Submitter::read_page` is `step`'s read, question by question: the position first, then the admission, then the range.
 use mathlib.Core.Path.{_≡_, refl, ap, _∙_}
 use mathlib.Core.Bool.{Bool, true, false, not, _&&_}
+use mathlib.Core.List.{List}
 use mathlib.Core.Option.{Option, none, some}
 use Prim.Native.Nat.{ℕ, _+_, _-_, _%_, _^_, min}
 use native.Mathlib.Omega.{arith}
@@ -27,13 +28,15 @@ use Rattle.step.specs.Questions.{rangeFrom, handleNamesRegion, bufferInPool, ho
 use Rattle.step.specs.Rules.{firstOf, lastOf, rangeOf, opOf, errorOf}
 use Rattle.step.specs.Step.{startOf, endOf, durableAs, planOf, readVerdict, called, step}
 use Rattle.step.specs.Sound.{Sound}
+use Rattle.step.specs.Run.{leave}
+use Rattle.step.specs.Lists.{HostMay}
 use Rattle.step.proofs.Answers.{Passed}
 use Rattle.step.proofs.Laws.{keeps}
 use Rattle.rusttable.specs.Table.{Result.Ok, Result.Err, IoBuf, RawError, ErrorContext, Error, Error.NotWritten, Submitter, Req.ReadAt, Submitted, Submitted.Taken, Submitted.Refused, Issued}
 use Rattle.rusttable.specs.Table.{NotWrittenCause.ForeignPosition, NotWrittenCause.StaleGeneration, NotWrittenCause.Empty, NotWrittenCause.Misaligned, NotWrittenCause.OutOfBounds}
-use Rattle.rusttable.specs.Functions.{tried, ctx, «ctx_range», «not_written», enter, admit, FirstPiece, «first_piece», issue, issuedWith, rejected, readError, read, «read_page»}
+use Rattle.rusttable.specs.Functions.{tried, ctx, «ctx_range», «not_written», enter, admit, FirstPiece, «first_piece», returned, issue, issuedWith, rejected, readError, read, «read_page»}
 use Rattle.rusttable.specs.Domain.{compared}
-use Rattle.rusttable.specs.AsStep.{bufOf, contextOf, contextAs, errorAs, storeOf, submitterOf, posOf, refusalOf, refusedError, reqAs, Submits}
+use Rattle.rusttable.specs.AsStep.{bufOf, contextOf, contextAs, errorAs, storeOf, submitterOf, inFlight, posOf, refusalOf, refusedError, reqAs, Submits}
 use Rattle.rusttable.proofs.Asking.{by-ask, by-gate, not-or, zero-test}
 use Rattle.rusttable.proofs.Issuing.{first-is, issue-is}
 use Rattle.rusttable.proofs.Answering.{passed, is-piece, req, submits, Answered, answered-yes, answered-no, answered-out, taken-by, refused-by}
@@ -159,10 +162,10 @@ read-square s l q n i known h =
 
 pub read-refused-square : (s : State) (l : Lengths) (q : Request) (n : ℕ) → Sound s → ltb (q .handle) (s .settings .regions) ≡ true
     → (t : ℕ) (o : Offset) (c b : ℕ) → step s l (ReadPage q) .1 ≡ piece t o c b
-    → (raw : Option RawError) (back : Bool) (m : ℕ) → compared (step (step s l (ReadPage q) .0) l (Answers t (refusalOf raw) back m) .1) ≡ true
-    → Submits n false (bufOf s (q .buffer) (q .length)) («read_page» (submitterOf s n) (q .handle) (posOf q) (bufOf s (q .buffer) (q .length)) (q .tag) (Refused raw back))
-    (step (step s l (ReadPage q) .0) l (Answers t (refusalOf raw) back m))
+    → (pool : List ℕ) → HostMay (step s l (ReadPage q) .0) pool → (raw : Option RawError) (back : Bool) (m : ℕ) → compared (step (leave (step s l (ReadPage q) .0) pool) l (Answers t (refusalOf raw) back m) .1) ≡ true
+    → Submits n false (bufOf s (q .buffer) (q .length)) («read_page» (submitterOf s n) (q .handle) (posOf q) (bufOf s (q .buffer) (q .length)) (q .tag) (Refused raw (returned back (inFlight (leave (step s l (ReadPage q) .0) pool) t))))
+    (step (leave (step s l (ReadPage q) .0) pool) l (Answers t (refusalOf raw) back m))
 unfolding called readVerdict
-read-refused-square s l q n i known t o c b issued raw back m h =
+read-refused-square s l q n i known t o c b issued pool may raw back m h =
     let e = called-step s l (ReadPage q) (is-piece (step s l (ReadPage q) .1) t o c b issued) in
-    rw e (refused-by s q n _ false _ _ i (starts s i q n) (same-error s i q n known) l raw back m _ (chain s i q n known) (rw e at (keeps s l (ReadPage q) i)) t o c b (rw e at issued) (rw e at h))
+    rw e (refused-by s q n _ false _ _ i (starts s i q n) (same-error s i q n known) l raw back m _ (chain s i q n known) (rw e at (keeps s l (ReadPage q) i)) t o c b (rw e at issued) pool (rw e at may) (rw e at h))

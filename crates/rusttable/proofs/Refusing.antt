@@ -1,6 +1,6 @@
 -- A submission with the queue's verdict on its first piece: by the event behind it, which in the domain of the comparison refuses just that piece, or none.
 use mathlib.Core.Path.{_≡_, refl, sym, ap, _∙_, subst}
-use mathlib.Core.Bool.{Bool, true, false, _&&_}
+use mathlib.Core.Bool.{Bool, true, false}
 use mathlib.Core.List.{List, [], _∷_}
 use mathlib.Core.Option.{Option, none, some}
 use Prim.Native.Nat.{ℕ}
@@ -24,11 +24,12 @@ use Rattle.step.specs.Run.{Made, Made.calls, Made.looks, Event, leave, done, ne
 use Rattle.step.proofs.AloneTags.{clash}
 use Rattle.step.proofs.Histories.{done-stays}
 use Rattle.step.specs.Alone.{tagGiven}
+use Rattle.step.specs.Lists.{HostMay}
 use Rattle.rusttable.specs.Table.{Result, Result.Ok, Result.Err, IoBuf, RawError, RawResult, Submitter, Submitted, Submitted.Taken, Submitted.Refused as QueueRefuses, Issued}
-use Rattle.rusttable.specs.Functions.{isSome}
+use Rattle.rusttable.specs.Functions.{isSome, returned}
 use Rattle.rusttable.specs.Domain.{compared, isTag, atOnce, InDomain}
-use Rattle.rusttable.specs.AsStep.{answerOf, refusalOf, Submits}
-use Rattle.rusttable.specs.Histories.{asRust, refusal, refusedBy, refusesFirst, verdictAs, verdict, comesTo, MadeIn, HistoryIn}
+use Rattle.rusttable.specs.AsStep.{inFlight, answerOf, refusalOf, Submits}
+use Rattle.rusttable.specs.Histories.{asRust, refusal, refusedBy, verdictAs, verdict, comesTo, MadeIn, HistoryIn}
 use Rattle.rusttable.proofs.Within.{called-step}
 
 -- ---- what is read back
@@ -51,30 +52,38 @@ refusal-is Refused (some e) q = clash (cc)
 refusal-is (RefusedWith x media) none q = clash (cc)
 refusal-is (RefusedWith x media) (some e) q = let z : record { raw = x; media = media } ≡ e = cc in (λ j. RefusedWith (z j .raw) (z j .media))
 
--- an event that refuses a piece
-pub record Refuses (m : Made) (raw : Option RawError) (back : Bool) : Type 0 where
+-- an event that refuses a piece, where the host left a state
+pub record Refuses (s : State) (m : Made) (raw : Option RawError) (buf : Option IoBuf) : Type 0 where
   pub t : ℕ
+  pub back : Bool
   pub flushes : ℕ
   pub is : m ≡ calls (Answers t (refusalOf raw) back flushes)
+  pub gives : returned back (inFlight s t) ≡ buf
 
-refuses : (m : Made) (raw : Option RawError) (back : Bool) → refusedBy m ≡ some (raw, back) → Refuses m raw back
+refuses : (s : State) (m : Made) (raw : Option RawError) (buf : Option IoBuf) → refusedBy s m ≡ some (raw, buf) → Refuses s m raw buf
 unfolding refusedBy refusal
-refuses (calls (Write q)) raw back e = clash (cc)
-refuses (calls (ReadPage q)) raw back e = clash (cc)
-refuses (calls (Answers t a was flushes)) raw back e = by-answer (asRust a) refl e
+refuses s (calls (Write q)) raw buf e = clash (cc)
+refuses s (calls (ReadPage q)) raw buf e = clash (cc)
+refuses s (calls (Answers t a back flushes)) raw buf e = by-answer (asRust a) refl e
   where
-    by-answer : (r : Result RawResult (Option RawError)) → asRust a ≡ r → refusal r was ≡ some (raw, back) → Refuses (calls (Answers t a was flushes)) raw back
+    by-answer : (r : Result RawResult (Option RawError)) → asRust a ≡ r → refusal s t back r ≡ some (raw, buf) → Refuses s (calls (Answers t a back flushes)) raw buf
     by-answer (Ok result) q z = clash (cc)
     by-answer (Err found) q z =
-        let both : _≡_ {A = Option RawError × Bool} (found, was) (raw, back) = cc in
-        record { t = t; flushes = flushes; is = (λ j. calls (Answers t ((refusal-is a found q ∙ ap (λ (y : Option RawError × Bool). refusalOf (y .0)) both) j) (both j .1) flushes)) }
-refuses (calls (FlushedCall t result)) raw back e = clash (cc)
-refuses (calls Take) raw back e = clash (cc)
-refuses (calls (SetGate h x)) raw back e = clash (cc)
-refuses (calls (SetReadOnly h x)) raw back e = clash (cc)
-refuses (calls (SetForced h x)) raw back e = clash (cc)
-refuses (calls (ReportPoison cause)) raw back e = clash (cc)
-refuses (looks x) raw back e = clash (cc)
+        let both : _≡_ {A = Option RawError × Option IoBuf} (found, returned back (inFlight s t)) (raw, buf) = cc in
+        record {
+          t = t;
+          back = back;
+          flushes = flushes;
+          is = (λ j. calls (Answers t ((refusal-is a found q ∙ ap (λ (y : Option RawError × Option IoBuf). refusalOf (y .0)) both) j) back flushes));
+          gives = ap (λ (y : Option RawError × Option IoBuf). y .1) both;
+        }
+refuses s (calls (FlushedCall t result)) raw buf e = clash (cc)
+refuses s (calls Take) raw buf e = clash (cc)
+refuses s (calls (SetGate h x)) raw buf e = clash (cc)
+refuses s (calls (SetReadOnly h x)) raw buf e = clash (cc)
+refuses s (calls (SetForced h x)) raw buf e = clash (cc)
+refuses s (calls (ReportPoison cause)) raw buf e = clash (cc)
+refuses s (looks x) raw buf e = clash (cc)
 
 -- a refusal in the domain is of the piece that the reply before issued
 pub tag-issued : (before : Option ℕ) (t : ℕ) (raw : Option RawError) (back : Bool) (flushes : ℕ) → atOnce before (Answers t (refusalOf raw) back flushes) ≡ true → before ≡ some t
@@ -115,38 +124,44 @@ lent s l c = by-lengths (eqLengths l (s .lengths)) refl
 -- ---- the verdict
 
 module _ (s : State) (l : Lengths) (c : Call) (d : compared (step s l c .1) ≡ true) (w : Bool) (buf : IoBuf) (issued : ℕ) (rust : Submitted → Submitter × Issued) (taken : Submits issued w buf (rust Taken) (step s l c))
-    (refused : (t : ℕ) (offset : Offset) (count b : ℕ) → step s l c .1 ≡ piece t offset count b → (raw : Option RawError) (back : Bool) (flushes : ℕ) → InDomain (some t) (step s l c .0) l (Answers t (refusalOf raw) back flushes)
-    → Submits issued w buf (rust (QueueRefuses raw back)) (step (step s l c .0) l (Answers t (refusalOf raw) back flushes))) where
+    (refused : (t : ℕ) (offset : Offset) (count b : ℕ) → step s l c .1 ≡ piece t offset count b → (pool : List ℕ) → HostMay (step s l c .0) pool → (raw : Option RawError) (back : Bool) (flushes : ℕ)
+    → InDomain (some t) (leave (step s l c .0) pool) l (Answers t (refusalOf raw) back flushes)
+    → Submits issued w buf (rust (QueueRefuses raw (returned back (inFlight (leave (step s l c .0) pool) t)))) (step (leave (step s l c .0) pool) l (Answers t (refusalOf raw) back flushes))) where
   abbrev to : State
   to = step s l c .0
 
-  -- the refusal lends the same lengths
-  same-lent : (l₂ : Lengths) (x : Call) → compared (step to l₂ x .1) ≡ true → step to l x ≡ step to l₂ x
-  unfolding step pick done
-  same-lent l₂ x h =
-      let same : eqLengths l (to .lengths) ≡ true = ap (λ (k : Lengths). eqLengths l k) (done-stays s l (calls c) .lengths) ∙ lent s l c d in
-      ap (λ (b : Bool). pick b (called to x) (to, turnedAway Unfit)) same ∙ sym (called-step to l₂ x h)
+  module _ (pool : List ℕ) (may : HostMay to pool) where
+    abbrev left : State
+    left = leave to pool
 
-  refused-by : (t : ℕ) (raw : Option RawError) (back : Bool) (flushes : ℕ) (l₂ : Lengths) → InDomain (tagGiven (step s l c .1)) to l₂ (Answers t (refusalOf raw) back flushes)
-      → Submits issued w buf (rust (QueueRefuses raw back)) (step to l₂ (Answers t (refusalOf raw) back flushes))
-  refused-by t raw back flushes l₂ h =
-      let x = Answers t (refusalOf raw) back flushes in
-      let q = tag-issued (tagGiven (step s l c .1)) t raw back flushes (h .refusal) in
-      let p = is-piece (step s l c .1) t q in
-      let same = same-lent l₂ x (h .numbers) in
-      let in-it : InDomain (some t) to l x =
-      record { numbers = ap (λ (z : State × Reply). compared (z .1)) same ∙ h .numbers; handle = h .handle; refusal = subst (λ (o : Option ℕ). atOnce o x ≡ true) q (h .refusal); maps = h .maps } in
-      subst (Submits issued w buf (rust (QueueRefuses raw back))) same (refused t (p .offset) (p .count) (p .b) (p .is) raw back flushes in-it)
+    -- the refusal lends the same lengths
+    same-lent : (l₂ : Lengths) (x : Call) → compared (step left l₂ x .1) ≡ true → step left l x ≡ step left l₂ x
+    unfolding step pick done leave
+    same-lent l₂ x h =
+        let same : eqLengths l (to .lengths) ≡ true = ap (λ (k : Lengths). eqLengths l k) (done-stays s l (calls c) .lengths) ∙ lent s l c d in
+        ap (λ (b : Bool). pick b (called left x) (left, turnedAway Unfit)) same ∙ sym (called-step left l₂ x h)
 
-  pub submitted : (es : List Event) → HistoryIn true (tagGiven (step s l c .1)) to es → Submits issued w buf (rust (verdict es)) (comesTo (step s l c) es)
-  unfolding verdict comesTo HistoryIn verdictAs isSome pick next replyTo leave done MadeIn refusesFirst
+    refused-by : (t : ℕ) (raw : Option RawError) (back : Bool) (flushes : ℕ) (l₂ : Lengths) → InDomain (tagGiven (step s l c .1)) left l₂ (Answers t (refusalOf raw) back flushes)
+        → Submits issued w buf (rust (QueueRefuses raw (returned back (inFlight left t)))) (step left l₂ (Answers t (refusalOf raw) back flushes))
+    refused-by t raw back flushes l₂ h =
+        let x = Answers t (refusalOf raw) back flushes in
+        let q = tag-issued (tagGiven (step s l c .1)) t raw back flushes (h .refusal) in
+        let p = is-piece (step s l c .1) t q in
+        let same = same-lent l₂ x (h .numbers) in
+        let in-it : InDomain (some t) left l x =
+        record { numbers = ap (λ (z : State × Reply). compared (z .1)) same ∙ h .numbers; handle = h .handle; refusal = subst (λ (o : Option ℕ). atOnce o x ≡ true) q (h .refusal); maps = h .maps } in
+        subst (Submits issued w buf (rust (QueueRefuses raw (returned back (inFlight left t))))) same (refused t (p .offset) (p .count) (p .b) (p .is) pool may raw back flushes in-it)
+
+  pub submitted : (es : List Event) → HistoryIn (tagGiven (step s l c .1)) to es → Submits issued w buf (rust (verdict to es)) (comesTo (step s l c) es)
+  unfolding verdict comesTo HistoryIn verdictAs isSome pick next replyTo done MadeIn
   submitted [] h = taken
-  submitted (e ∷ es) h = by-refusal (refusedBy (e .made)) refl
+  submitted (e ∷ es) h = by-refusal (refusedBy (leave to (e .leaves)) (e .made)) refl
     where
-      by-refusal : (v : Option (Option RawError × Bool)) → refusedBy (e .made) ≡ v → Submits issued w buf (rust (verdictAs v)) (pick (isSome v) (next to e, replyTo to e) (step s l c))
+      by-refusal : (v : Option (Option RawError × Option IoBuf)) → refusedBy (leave to (e .leaves)) (e .made) ≡ v → Submits issued w buf (rust (verdictAs v)) (pick (isSome v) (next to e, replyTo to e) (step s l c))
       by-refusal none q = taken
       by-refusal (some v) q =
-          let z = refuses (e .made) (v .0) (v .1) q in
-          let same : leave to (e .leaves) ≡ to = ap (leave to) (h .1 (ap (λ (o : Option (Option RawError × Bool)). isSome o && true) q)) in
-          subst (Submits issued w buf (rust (QueueRefuses (v .0) (v .1)))) (λ j. done (sym same j) (e .lengths) (sym (z .is) j))
-          (refused-by (z .t) (v .0) (v .1) (z .flushes) (e .lengths) (subst (λ (m : Made). MadeIn (tagGiven (step s l c .1)) to (e .lengths) m) (z .is) (subst (λ (y : State). MadeIn (tagGiven (step s l c .1)) y (e .lengths) (e .made)) same (h .2))))
+          let at = leave to (e .leaves) in
+          let z = refuses at (e .made) (v .0) (v .1) q in
+          subst (λ (b : Option IoBuf). Submits issued w buf (rust (QueueRefuses (v .0) b)) (next to e, replyTo to e)) (z .gives)
+          (subst (Submits issued w buf (rust (QueueRefuses (v .0) (returned (z .back) (inFlight at (z .t)))))) (λ j. done at (e .lengths) (sym (z .is) j))
+          (refused-by (e .leaves) (h .0) (z .t) (v .0) (z .back) (z .flushes) (e .lengths) (subst (λ (m : Made). MadeIn (tagGiven (step s l c .1)) at (e .lengths) m) (z .is) (h .1))))

@@ -2,6 +2,7 @@
 -- same order.
 use mathlib.Core.Path.{_≡_, refl, ap, _∙_}
 use mathlib.Core.Bool.{Bool, true, false, not, _&&_}
+use mathlib.Core.List.{List}
 use mathlib.Core.Option.{Option, none, some}
 use Prim.Native.Nat.{ℕ, _+_, _^_}
 use borrow.Author.Tests.{not-true, not-false}
@@ -31,13 +32,15 @@ use Rattle.step.specs.Questions.{handleNamesRegion, bufferInPool, hostHoldsBuff
 use Rattle.step.specs.Rules.{firstOf, lastOf, rangeOf, opOf, errorOf}
 use Rattle.step.specs.Step.{startOf, endOf, durableAs, planOf, writeVerdict, called, step}
 use Rattle.step.specs.Sound.{Sound}
+use Rattle.step.specs.Run.{leave}
+use Rattle.step.specs.Lists.{HostMay}
 use Rattle.step.proofs.Answers.{Passed}
 use Rattle.step.proofs.Laws.{keeps}
 use Rattle.rusttable.specs.Table.{Result, Result.Ok, Result.Err, IoBuf, RawError, Error, Error.NotWritten, Error.Poisoned, Submitter, Req.WriteAt, Submitted, Submitted.Taken, Submitted.Refused, Issued}
 use Rattle.rusttable.specs.Table.{NotWrittenCause.ForeignPosition, NotWrittenCause.ForeignBuffer, NotWrittenCause.QueueFull, NotWrittenCause.StaleGeneration, NotWrittenCause.ReadOnly, NotWrittenCause.Empty, NotWrittenCause.Misaligned, NotWrittenCause.OutOfBounds}
-use Rattle.rusttable.specs.Functions.{tried, ctx, «ctx_range», noContext, «not_written», refused, unpoisoned, ready, «ready_for», enter, owns, full, admit, check, «first_piece», issue, issuedWith, rejected, write}
+use Rattle.rusttable.specs.Functions.{tried, ctx, «ctx_range», noContext, «not_written», refused, unpoisoned, ready, «ready_for», enter, owns, full, admit, check, «first_piece», returned, issue, issuedWith, rejected, write}
 use Rattle.rusttable.specs.Domain.{compared}
-use Rattle.rusttable.specs.AsStep.{bufOf, contextOf, contextAs, errorAs, completionAs, rowAs, tableOf, storeOf, submitterOf, posOf, refusalOf, refusedError, reqAs, Submits}
+use Rattle.rusttable.specs.AsStep.{bufOf, contextOf, contextAs, errorAs, completionAs, rowAs, tableOf, storeOf, submitterOf, inFlight, posOf, refusalOf, refusedError, reqAs, Submits}
 use Rattle.rusttable.proofs.Asking.{by-ask, by-gate, by-poison, not-or, zero-test, full-test}
 use Rattle.rusttable.proofs.Issuing.{first-is, issue-is}
 use Rattle.rusttable.proofs.Answering.{passed, is-piece, req, submits, Answered, answered-yes, answered-no, answered-out, taken-by, refused-by}
@@ -226,10 +229,10 @@ write-square s l q n i known h =
 
 pub write-refused-square : (s : State) (l : Lengths) (q : Request) (n : ℕ) → Sound s → ltb (q .handle) (s .settings .regions) ≡ true
     → (t : ℕ) (o : Offset) (c b : ℕ) → step s l (Write q) .1 ≡ piece t o c b
-    → (raw : Option RawError) (back : Bool) (m : ℕ) → compared (step (step s l (Write q) .0) l (Answers t (refusalOf raw) back m) .1) ≡ true
-    → Submits n true (bufOf s (q .buffer) (q .length)) (write (submitterOf s n) (q .handle) (posOf q) (bufOf s (q .buffer) (q .length)) (q .durable) (q .tag) (Refused raw back))
-    (step (step s l (Write q) .0) l (Answers t (refusalOf raw) back m))
+    → (pool : List ℕ) → HostMay (step s l (Write q) .0) pool → (raw : Option RawError) (back : Bool) (m : ℕ) → compared (step (leave (step s l (Write q) .0) pool) l (Answers t (refusalOf raw) back m) .1) ≡ true
+    → Submits n true (bufOf s (q .buffer) (q .length)) (write (submitterOf s n) (q .handle) (posOf q) (bufOf s (q .buffer) (q .length)) (q .durable) (q .tag) (Refused raw (returned back (inFlight (leave (step s l (Write q) .0) pool) t))))
+    (step (leave (step s l (Write q) .0) pool) l (Answers t (refusalOf raw) back m))
 unfolding called writeVerdict
-write-refused-square s l q n i known t o c b issued raw back m h =
+write-refused-square s l q n i known t o c b issued pool may raw back m h =
     let e = called-step s l (Write q) (is-piece (step s l (Write q) .1) t o c b issued) in
-    rw e (refused-by s q n _ true _ _ i (starts s i q n) (λ p. same-error s i q n known) l raw back m _ (chain s i q n known) (rw e at (keeps s l (Write q) i)) t o c b (rw e at issued) (rw e at h))
+    rw e (refused-by s q n _ true _ _ i (starts s i q n) (λ p. same-error s i q n known) l raw back m _ (chain s i q n known) (rw e at (keeps s l (Write q) i)) t o c b (rw e at issued) pool (rw e at may) (rw e at h))

@@ -3,11 +3,12 @@ use mathlib.Core.Path.{_≡_}
 use mathlib.Core.Bool.{Bool, true, false}
 use mathlib.Core.List.{List, map}
 use mathlib.Core.Option.{Option, none, some, Option·map}
-use Prim.Native.Nat.{ℕ, _+_, _-_, _≤_, _<_}
+use Prim.Native.Nat.{ℕ, _+_, _-_, _≤_, _<_, _^_}
 use lib.Dec.{ltb, eqb}
+use lib.ListN.{length}
 use Rattle.layout.specs.Pick.{pick}
 use Rattle.regionmap.specs.declared.Offset.{Offset}
-use Rattle.regionmap.specs.Map.{Map, runOf}
+use Rattle.regionmap.specs.Map.{Map}
 use Rattle.domain.specs.declared.{Op.Op, OsError.OsError}
 use Rattle.domain.specs.declared.OsError.the-variants as OsError
 use Rattle.platform.specs.declared.Answer.{Answer}
@@ -41,6 +42,7 @@ use Rattle.rusttable.specs.Table.{NotWrittenCause.Misaligned, NotWritten
 use Rattle.rusttable.specs.Table.{Error.NotWritten, Error.Poisoned, Error.Io, Error.DurabilityUnknown, Error.Corruption, Done.Wrote, Done.Read}
 use Rattle.rusttable.specs.Table.{Finish.Finished, Finish.Flush, Finish.Next, Req.WriteAt, Req.ReadAt, Submitted.Taken}
 use Rattle.rusttable.specs.Table.{Submitted.Refused as QueueRefuses, Issued.Submit, Issued.Reject}
+use Rattle.rusttable.specs.RegionMap.{«run_of», locate, «run_end»}
 use Rattle.rusttable.specs.Functions.{«receipt_for», «durable_receipt», indexIn, returned, finish as rustFinish, «refused_next»}
 use Rattle.rusttable.specs.Functions.{abort as rustAbort, flushed as rustFlushed, next, Popped, write as rustWrite, «read_page», new as rustNew}
 use Rattle.rusttable.specs.Domain.{InDomain}
@@ -253,14 +255,17 @@ pub record Takes (issued : ℕ) (s : State) (popped : Popped) (after : State × 
   pub store : storeOf (after .0) issued ≡ storeOf s issued
   pub front : some (popped .front) ≡ frontAs (after .0) (after .1)
 
--- What the Rust asserts of the piece under way: it moves the operation on (`finish`), its buffer has room for the whole operation (`set_len`), and
--- its range lies within the data and within one run (`RegionMap::locate`).
+-- What the Rust asserts of the piece under way: it moves the operation on (`finish`), its buffer has room for the whole operation (`set_len`), bytes
+-- are left in its run (`RegionMap::run_left`), and its range lies within the data and within one run (`RegionMap::locate`). Its end on the card is a
+-- number of 64 bits, so no sum of the map wraps.
 pub record Asserts (m : Map) (start : ℕ) (sp : Split) (count capacity : ℕ) : Type 0 where
   pub moves : sp .done < sp .done + count
   pub most : sp .done + count ≤ sp .total
   pub room : sp .total ≤ capacity
+  pub rest : start + sp .done < «run_end» m (start + sp .done)
   pub in-data : start + sp .done + count ≤ m .dataLength
-  pub in-run : start + sp .done + count ≤ runOf m (start + sp .done) .end
+  pub in-run : start + sp .done + count ≤ «run_of» m (start + sp .done) (length (m .more)) .2
+  pub unwrapped : locate m (start + sp .done) count + count < 2 ^ 64
 
 -- the calls that set a mark of a region, or report poison
 unfoldable pub isSetting : Call → Bool
@@ -278,28 +283,34 @@ isSetting (Call.ReportPoison cause) = true
 pub record AsStep : Type 0 where
   -- `Table::new`
   pub new : (o : Opening) (plans : List Plan) (l : Lengths) (pool : List ℕ) → rustNew (o .depth) ≡ tableOf (opened o plans l pool)
-  -- `Submitter::write`, with a queue that takes the first piece; and with one that refuses it at once: in step the answer that follows
+  -- `Submitter::write`, with a queue that takes the first piece; and with one that refuses it at once: in step the answer that follows. Between
+  -- the two the host writes as it may, into a read's piece too, and the queue gives the buffer back as it lies then.
   pub write : (before : Option ℕ) (s : State) (l : Lengths) (q : Request) (issued : ℕ) → Sound s → InDomain before s l (Call.Write q)
       → Submits issued true (bufOf s (q .buffer) (q .length))
       (rustWrite (submitterOf s issued) (q .handle) (posOf q) (bufOf s (q .buffer) (q .length)) (q .durable) (q .tag) Taken) (step s l (Call.Write q))
   pub write-refused : (before : Option ℕ) (s : State) (l : Lengths) (q : Request) (issued : ℕ) → Sound s → InDomain before s l (Call.Write q)
       → (t : ℕ) (offset : Offset) (count b : ℕ) → step s l (Call.Write q) .1 ≡ Reply.Piece t offset count b
-      → (raw : Option RawError) (back : Bool) (flushes : ℕ)
-      → InDomain (some t) (step s l (Call.Write q) .0) l (Call.Answer t (refusalOf raw) back flushes)
+      → (pool : List ℕ) → HostMay (step s l (Call.Write q) .0) pool → (raw : Option RawError) (back : Bool) (flushes : ℕ)
+      → InDomain (some t) (leave (step s l (Call.Write q) .0) pool) l (Call.Answer t (refusalOf raw) back flushes)
       → Submits issued true (bufOf s (q .buffer) (q .length))
-      (rustWrite (submitterOf s issued) (q .handle) (posOf q) (bufOf s (q .buffer) (q .length)) (q .durable) (q .tag) (QueueRefuses raw back))
-      (step (step s l (Call.Write q) .0) l (Call.Answer t (refusalOf raw) back flushes))
+      (rustWrite (submitterOf s issued) (q .handle) (posOf q) (bufOf s (q .buffer) (q .length)) (q .durable) (q .tag)
+      (QueueRefuses raw (returned back (inFlight (leave (step s l (Call.Write q) .0) pool) t))))
+      (step (leave (step s l (Call.Write q) .0) pool) l (Call.Answer t (refusalOf raw) back flushes))
   -- `Submitter::read_page`, likewise
   pub read : (before : Option ℕ) (s : State) (l : Lengths) (q : Request) (issued : ℕ) → Sound s → InDomain before s l (Call.ReadPage q)
       → Submits issued false (bufOf s (q .buffer) (q .length))
       («read_page» (submitterOf s issued) (q .handle) (posOf q) (bufOf s (q .buffer) (q .length)) (q .tag) Taken) (step s l (Call.ReadPage q))
   pub read-refused : (before : Option ℕ) (s : State) (l : Lengths) (q : Request) (issued : ℕ) → Sound s → InDomain before s l (Call.ReadPage q)
       → (t : ℕ) (offset : Offset) (count b : ℕ) → step s l (Call.ReadPage q) .1 ≡ Reply.Piece t offset count b
-      → (raw : Option RawError) (back : Bool) (flushes : ℕ)
-      → InDomain (some t) (step s l (Call.ReadPage q) .0) l (Call.Answer t (refusalOf raw) back flushes)
+      → (pool : List ℕ) → HostMay (step s l (Call.ReadPage q) .0) pool → (raw : Option RawError) (back : Bool) (flushes : ℕ)
+      → InDomain (some t) (leave (step s l (Call.ReadPage q) .0) pool) l (Call.Answer t (refusalOf raw) back flushes)
       → Submits issued false (bufOf s (q .buffer) (q .length))
-      («read_page» (submitterOf s issued) (q .handle) (posOf q) (bufOf s (q .buffer) (q .length)) (q .tag) (QueueRefuses raw back))
-      (step (step s l (Call.ReadPage q) .0) l (Call.Answer t (refusalOf raw) back flushes))
+      («read_page» (submitterOf s issued) (q .handle) (posOf q) (bufOf s (q .buffer) (q .length)) (q .tag)
+      (QueueRefuses raw (returned back (inFlight (leave (step s l (Call.ReadPage q) .0) pool) t))))
+      (step (leave (step s l (Call.ReadPage q) .0) pool) l (Call.Answer t (refusalOf raw) back flushes))
+  -- what the queue has under a tag is the piece that it was handed, the one of the reply (issuedAs, finishAs)
+  pub in-flight : (s : State) (l : Lengths) (c : Call) → Sound s → (t : ℕ) (offset : Offset) (count b : ℕ)
+      → step s l c .1 ≡ Reply.Piece t offset count b → inFlight (step s l c .0) t ≡ bufOf (step s l c .0) b count
   -- `Table::finish`, of a count or an error; the flush count is the answer's
   pub finish : (before : Option ℕ) (s : State) (l : Lengths) (t : ℕ) (result : RawResult) (back : Bool) (flushes : ℕ) → Sound s
       → InDomain before s l (Call.Answer t (answerOf result) back flushes)

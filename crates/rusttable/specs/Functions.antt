@@ -1,8 +1,7 @@
 -- The Rust's functions on values: each takes what the Rust's has in its hands and returns it as the Rust leaves it, in the Rust's order of tests and
 -- statements and under its names, each with its file. A `&mut self` goes in and comes out. Assertions and busy marks are left out. The map's
--- `run_left` and `locate` are the crate regionmap's definitions of them. Not in docs/src, and so as document 01 restates them: `settle_write`,
--- `settle_read`, `durable_receipt`, `in_range` (settle.rs), the gate (gate.rs) with `retired_error` (lifecycle.rs), the pool's `owns` and IoBuf's
--- `set_len` (store_io_buf).
+-- functions are in RegionMap. Not in docs/src, and so as document 01 restates them: `settle_write`, `settle_read`, `durable_receipt`, `in_range`
+-- (settle.rs), the gate (gate.rs) with `retired_error` (lifecycle.rs), the pool's `owns` and IoBuf's `set_len` (store_io_buf).
 use mathlib.Core.Bool.{Bool, true, false, not, _&&_, _||_}
 use mathlib.Core.List.{List, [], _∷_, _++_}
 use mathlib.Core.Option.{Option, none, some, Option·map}
@@ -11,7 +10,6 @@ use lib.ListN.{length, getD, getElem?, set, take, drop, replicate}
 use lib.Dec.{leb, ltb, eqb}
 use Rattle.layout.specs.Pick.{pick}
 use Rattle.regionmap.specs.declared.Position.{Position}
-use Rattle.regionmap.specs.Map.{runLeft, place}
 use Rattle.regionmap.specs.Words.{positionOf}
 use Rattle.domain.specs.declared.{Op.Op, OsError.OsError}
 use Rattle.domain.specs.declared.Op.the-variants as Op
@@ -24,6 +22,7 @@ use Rattle.model.specs.declared.{Kind.Kind, Split.Split, Gate.Gate}
 use Rattle.model.specs.declared.Kind.the-variants as Kind
 use Rattle.model.specs.declared.Gate.the-variants as Gate
 use Rattle.model.specs.State.{Region, noRegion, upFrom, receiptFor}
+use Rattle.rusttable.specs.RegionMap.{«run_left», locate}
 use Rattle.rusttable.specs.Table.{Result, Result.Ok, Result.Err, IoBuf, RawError, RawResult, ErrorContext, Error, Flushed, Written, Done}
 use Rattle.rusttable.specs.Table.{Outcome, Completion, Held, Live, Row, Table, Finish, Store, Submitter, RegionPos, Req, Submitted, Issued}
 use Rattle.rusttable.specs.Table.{NotWrittenCause, NotWrittenCause.ForeignPosition, NotWrittenCause.ForeignBuffer, NotWrittenCause.QueueFull}
@@ -419,9 +418,9 @@ unfoldable pub nextOne : Submitter → ℕ → Live → Split → ℕ → ℕ �
 nextOne s qtag live split piece left b =
     let state = region (s .store) live in
     let pos = «start_of» (live .kind) + (split .done + piece) in
-    let next = min (runLeft (state .map) pos) left in
+    let next = min («run_left» (state .map) pos) left in
     let turned = «set_len» (rotated («set_len» b (split .total)) piece) next in
-    let offset = place (state .map) pos in
+    let offset = locate (state .map) pos next in
     let write = not (isSome (asRead (live .kind))) in (
       withTable s (put (s .table) qtag (withSplit live (some
           (record { total = split .total; done = split .done + piece })))),
@@ -507,10 +506,10 @@ pub record FirstPiece : Type 0 where
 unfoldable pub «first_piece» : Region → Position → IoBuf → FirstPiece
 «first_piece» state start buf =
     let total = buf .len in
-    let piece = min (runLeft (state .map) (start .0)) total in
+    let piece = min («run_left» (state .map) (start .0)) total in
     pick (ltb piece total)
-    (record { offset = place (state .map) (start .0); split = some (record { total = total; done = 0 }); buf = «set_len» buf piece })
-    (record { offset = place (state .map) (start .0); split = none; buf = buf })
+    (record { offset = locate (state .map) (start .0) piece; split = some (record { total = total; done = 0 }); buf = «set_len» buf piece })
+    (record { offset = locate (state .map) (start .0) piece; split = none; buf = buf })
 
 -- `Submitter::admit`: the store is this one's, as the region is named by a handle
 unfoldable pub admit : Submitter → Region → IoBuf → Result (Unit {0}) Error
@@ -541,7 +540,7 @@ Told = Result (ℕ × Req) (Option RawError × Option IoBuf)
 
 unfoldable pub submit : Submitter → Table → ℕ → ℕ → Req → Option Split → Submitted → Submitter × Told
 submit s t index qtag req split Taken = (withTable s t, Ok (qtag, req))
-submit s t index qtag req split (Refused raw back) = (withTable s (abort t index), Err (raw, Option·map (whole split) (returned back (bufIn req))))
+submit s t index qtag req split (Refused raw buf) = (withTable s (abort t index), Err (raw, Option·map (whole split) buf))
 
 unfoldable pub issue : Submitter → Req → ℕ → Kind → ℕ → Bool → Option Split → Submitted → Submitter × Told
 issue s req tag kind handle durable split queue =

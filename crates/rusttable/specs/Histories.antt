@@ -3,7 +3,7 @@
 -- a first piece, one call of the Rust is two events: the submission, and the refusal that comes next. A lookup hands the Rust nothing here: the
 -- Rust's `order` and `mark` are left out (Table).
 use mathlib.Core.Path.{_≡_}
-use mathlib.Core.Bool.{Bool, true, false, _&&_}
+use mathlib.Core.Bool.{Bool, true, false}
 use mathlib.Core.List.{List, [], _∷_, _++_, map}
 use mathlib.Core.Option.{Option, none, some, Option·map}
 use Prim.Native.Nat.{ℕ}
@@ -113,35 +113,31 @@ isSubmission (calls (Call.SetForced h x)) = false
 isSubmission (calls (Call.ReportPoison cause)) = false
 isSubmission (looks x) = false
 
--- the queue's refusal, if an event is one, and whether the buffer comes back
-unfoldable pub refusal : Result RawResult (Option RawError) → Bool → Option (Option RawError × Bool)
-refusal (Ok result) back = none
-refusal (Err raw) back = some (raw, back)
+-- the queue's refusal, if an event is one: its error, and the buffer as the queue gives it back, by the bytes that lie there then
+unfoldable pub refusal : State → ℕ → Bool → Result RawResult (Option RawError) → Option (Option RawError × Option IoBuf)
+refusal s t back (Ok result) = none
+refusal s t back (Err raw) = some (raw, returned back (inFlight s t))
 
-unfoldable pub refusedBy : Made → Option (Option RawError × Bool)
-refusedBy (calls (Call.Write q)) = none
-refusedBy (calls (Call.ReadPage q)) = none
-refusedBy (calls (Call.Answer t a back flushes)) = refusal (asRust a) back
-refusedBy (calls (Call.Flushed t result)) = none
-refusedBy (calls Call.Take) = none
-refusedBy (calls (Call.SetGate h x)) = none
-refusedBy (calls (Call.SetReadOnly h x)) = none
-refusedBy (calls (Call.SetForced h x)) = none
-refusedBy (calls (Call.ReportPoison cause)) = none
-refusedBy (looks x) = none
+unfoldable pub refusedBy : State → Made → Option (Option RawError × Option IoBuf)
+refusedBy s (calls (Call.Write q)) = none
+refusedBy s (calls (Call.ReadPage q)) = none
+refusedBy s (calls (Call.Answer t a back flushes)) = refusal s t back (asRust a)
+refusedBy s (calls (Call.Flushed t result)) = none
+refusedBy s (calls Call.Take) = none
+refusedBy s (calls (Call.SetGate h x)) = none
+refusedBy s (calls (Call.SetReadOnly h x)) = none
+refusedBy s (calls (Call.SetForced h x)) = none
+refusedBy s (calls (Call.ReportPoison cause)) = none
+refusedBy s (looks x) = none
 
--- an event refuses a first piece: "a piece that the queue refuses is refused before any other call", so the event before submitted it
-unfoldable pub refusesFirst : Bool → Made → Bool
-refusesFirst after m = isSome (refusedBy m) && after
-
--- the queue's verdict on a first piece, by the event behind its submission
-unfoldable pub verdictAs : Option (Option RawError × Bool) → Submitted
+-- the queue's verdict on a first piece, by the event behind its submission: "a piece that the queue refuses is refused before any other call"
+unfoldable pub verdictAs : Option (Option RawError × Option IoBuf) → Submitted
 verdictAs none = Taken
 verdictAs (some z) = QueueRefuses (z .0) (z .1)
 
-unfoldable pub verdict : List Event → Submitted
-verdict [] = Taken
-verdict (e ∷ es) = verdictAs (refusedBy (e .made))
+unfoldable pub verdict : State → List Event → Submitted
+verdict s [] = Taken
+verdict s (e ∷ es) = verdictAs (refusedBy (leave s (e .leaves)) (e .made))
 
 -- an answer hands the Rust the buffer as the queue gives it back; a refused first piece went with its submission
 unfoldable pub answerTo : Bool → State → ℕ → Bool → ℕ → Result RawResult (Option RawError) → List Handed
@@ -163,14 +159,14 @@ handedBy after s (looks x) queue = []
 
 unfoldable pub handed : Bool → State → List Event → List Handed
 handed after s [] = []
-handed after s (e ∷ es) = handedBy after (leave s (e .leaves)) (e .made) (verdict es) ++ handed (isSubmission (e .made)) (next s e) es
+handed after s (e ∷ es) = handedBy after (leave s (e .leaves)) (e .made) (verdict (next s e) es) ++ handed (isSubmission (e .made)) (next s e) es
 
 -- ---- what `step` replies, as the Rust hands it back
 
 -- a submission comes to its own state and reply, or to those of the refusal behind it
 unfoldable pub comesTo : State × Reply → List Event → State × Reply
 comesTo z [] = z
-comesTo z (e ∷ es) = pick (isSome (refusedBy (e .made))) (next (z .0) e, replyTo (z .0) e) z
+comesTo z (e ∷ es) = pick (isSome (refusedBy (leave (z .0) (e .leaves)) (e .made))) (next (z .0) e, replyTo (z .0) e) z
 
 unfoldable pub answerSays : Bool → State × Reply → Result RawResult (Option RawError) → List (Option HandedBack)
 answerSays after z (Ok result) = Option·map finishes (finishAs (z .0) (z .1)) ∷ []
@@ -197,17 +193,18 @@ said after s (e ∷ es) = saidBy after (leave s (e .leaves)) (e .made) (next s e
 
 -- ---- the claim
 
--- a history in the domain: every call is, with the tag that the reply before it issued, and the host writes only as document 01 allows. The Rust
--- learns of a refused first piece within the call that submits it, so there nothing is written between the two events.
+-- a history in the domain: every call is, with the tag that the reply before it issued, and the host writes only as document 01 allows. Nothing else
+-- is asked of what the host writes, and so not between a submission and the refusal of its first piece either. There the Rust is within one call: its
+-- table holds no byte of a buffer that the host may write (AsStep, leaves), and the buffer that it hands back is the one that the queue gives back,
+-- with what was written into a read's piece.
 unfoldable pub MadeIn : Option ℕ → State → Lengths → Made → Type 0
 MadeIn before s l (calls c) = InDomain before s l c
 MadeIn before s l (looks x) = Unit {0}
 
-unfoldable pub HistoryIn : Bool → Option ℕ → State → List Event → Type 0
-HistoryIn after before s [] = Unit {0}
-HistoryIn after before s (e ∷ es) =
-    HostMay s (e .leaves) × (refusesFirst after (e .made) ≡ true → e .leaves ≡ s .pool) × MadeIn before (leave s (e .leaves)) (e .lengths) (e .made)
-    × HistoryIn (isSubmission (e .made)) (tagGiven (replyTo s e)) (next s e) es
+unfoldable pub HistoryIn : Option ℕ → State → List Event → Type 0
+HistoryIn before s [] = Unit {0}
+HistoryIn before s (e ∷ es) =
+    HostMay s (e .leaves) × MadeIn before (leave s (e .leaves)) (e .lengths) (e .made) × HistoryIn (tagGiven (replyTo s e)) (next s e) es
 
 -- the Rust's last submitter is the table's, with the flush count that it has, and what it handed back is what was said, in order
 pub record Agrees (rust : Submitter × List HandedBack) (s : State) (says : List (Option HandedBack)) : Type 0 where
@@ -216,5 +213,5 @@ pub record Agrees (rust : Submitter × List HandedBack) (s : State) (says : List
 
 -- of every opening that is admitted and every history that HistoryIn admits. Proved in proofs/Histories.antt (as-history).
 abbrev pub AsHistory : Type 0
-AsHistory = (x : Start) (es : List Event) → HistoryIn false none (openedBy x) es
+AsHistory = (x : Start) (es : List Event) → HistoryIn none (openedBy x) es
     → Agrees (rustRun (rustOpened (x .opening) (plansOf x)) (handed false (openedBy x) es)) (run (openedBy x) es) (said false (openedBy x) es)

@@ -1,4 +1,5 @@
 pub mod Table
+pub mod RegionMap
 pub mod Functions
 pub mod Domain
 pub mod AsStep

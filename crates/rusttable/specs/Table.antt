@@ -150,10 +150,11 @@ pub data Req : Type 0 where
   WriteAt : ℕ → IoBuf → Req
   ReadAt : ℕ → IoBuf → Req
 
--- how the queue answers `submit`: it takes the operation, or refuses it (store-io-platform's lib.rs, Rejected) and says whether the buffer comes back
+-- how the queue answers `submit`: it takes the operation, or refuses it (store-io-platform's lib.rs, Rejected) with "The raw error, if the refusal
+-- came from the OS", and "The operation's buffer, returned to the caller.", as the queue gives it back, if it does
 pub data Submitted : Type 0 where
   Taken : Submitted
-  Refused : Option RawError → Bool → Submitted
+  Refused : Option RawError → Option IoBuf → Submitted
 
 -- what a submission comes to: the operation that the queue was handed and took, under its queue tag, or the rejection
 pub data Issued : Type 0 where
