@@ -65,8 +65,8 @@ module _ (x : Start) (h : List Event) where
     asked (Asks.Call c) number held′ text r = ran c held′ text r
     asked Asks.Other number held′ text r = still held′ text (r .held)
 
-    looked : (y : Lookup) (held′ : Held) (text : List ℕ) → held′ ≡ held → LooksAs y (held .counts) (held .lent) text → LeavesBy (event (held .lent .pool) (lengthsOf (held .lent)) (looks y) ∷ []) held′ text
-    unfolding MakesTo Prints
+    looked : (y : Lookup) (held′ : Held) (text : List ℕ) → held′ ≡ held → LooksAs y (held .counts) (held .lent) text → LeavesBy (lineEvents (Said.Look y) held) held′ text
+    unfolding MakesTo Prints lineEvents
     looked y held′ text e r =
         let n = held-laws .makes x h (held .counts) (held .lent) (looks y) (r .reply) (held .counts) (held .lent) z (r .looked, refl, refl) in
         let d = event (held .lent .pool) (lengthsOf (held .lent)) (looks y) in
@@ -87,8 +87,8 @@ module _ (x : Start) (h : List Event) where
     unfolding lengthsOf shorter
     another e = omega (arith, some-word, length-take-le (length (held .lent .free) - 1) (held .lent .free) (omega arith), ap (λ (a : Lengths). a .free) e)
 
-    len : (held′ : Held) (text : List ℕ) → held′ ≡ held → LooksAs Lookup.WritesLive (held .counts) short text → LeavesBy (event (held .lent .pool) (lengthsOf short) (looks Lookup.WritesLive) ∷ []) held′ text
-    unfolding MakesTo Prints shorter
+    len : (held′ : Held) (text : List ℕ) → held′ ≡ held → LooksAs Lookup.WritesLive (held .counts) short text → LeavesBy (lineEvents Said.Len held) held′ text
+    unfolding MakesTo Prints lineEvents shorter
     len held′ text e r =
         let u : Turn =
         record { leaves = held .lent .pool; made = looks Lookup.WritesLive; lent = short; reply = r .reply; counts-left = held .counts; left = short; counts = held .counts; held = held .lent }
@@ -101,8 +101,8 @@ module _ (x : Start) (h : List Event) where
           others = λ unlike c l. (refl, refl);
         } in
         let n = held-laws .takes x h (held .counts) (held .lent) u z k in
-        let d = event (held .lent .pool) (lengthsOf short) (looks Lookup.WritesLive) in
-        (subst (λ (w : Held). Holds x (h ++ (d ∷ [])) (w .counts) (w .lent)) (sym e) (n .holds), r .prints ∙ ap replayText (n .reply))
+        let shortly = event (held .lent .pool) (lengthsOf short) (looks Lookup.WritesLive) in
+        (subst (λ (w : Held). Holds x (h ++ (shortly ∷ [])) (w .counts) (w .lent)) (sym e) (n .holds), r .prints ∙ ap replayText (n .reply))
 
     -- `fill`: the host writes where it may, or nothing
     filled-so : (b at n seed : ℕ) (may : Bool) → may ≡ mayFill (stateIn (held .counts) (held .lent)) b at n
