@@ -18,10 +18,11 @@ use Rattle.step.specs.Rules.{firstOf}
 use Rattle.step.specs.Step.{rowAt, rowOf, names}
 use Rattle.step.specs.Run.{Event, next, run}
 use Rattle.step.specs.Lists.{Given, givenBy, given, cardBy}
-use Rattle.step.specs.Demand2.{Served, NoPiece, PiecesDone, answersIn, ToCome}
+use Rattle.step.specs.Demand2.{NoPiece, PiecesDone, answersIn, ToCome}
 use Rattle.step.proofs.AloneTags.{clash}
 use Rattle.step.proofs.Demand2Fate.{pages}
 use Rattle.step.proofs.Demand2Task.{Task, splitOf, rest, rest-first, rest-none, Stage, Stage.piece, Stage.flush, InRow, Open}
+use Rattle.step.proofs.Demand2Served.{ServedOf}
 use Rattle.step.proofs.Demand2Event.{Came, Came.still, Came.over, came}
 
 -- after a list of events: the pieces behind d bytes of which so many were answered are those behind d′, or the operation is over and none is left
@@ -30,8 +31,8 @@ pub data Stands (w : Task) (s : State) (es : List Event) (d : ℕ) : Type 0 wher
   gone : names (rowAt (run s es) (rowOf (w .tag))) (w .tag) ≡ false → drop (answersIn (given s es (w .tag))) (rest w d) ≡ [] → Stands w s es d
 
 module _ (w : Task) where
-  pub stands : (es : List Event) (s : State) (card : Card) (d n : ℕ) → Open w s card d n → Served s es (w .tag) (w .request) card → Stands w s es d
-  unfolding Served run given answersIn
+  pub stands : (es : List Event) (s : State) (card : Card) (d n : ℕ) → Open w s card d n → ServedOf w s es card → Stands w s es d
+  unfolding ServedOf run given answersIn
   stands [] s card d n o served = here d n (o .in-row) refl
   stands (e ∷ es) s card d n o served =
       by-came (λ d′ n′ o′. stands es (next s e) (cardBy s e card) d′ n′ o′ (served .4)) (came w s card d n o e (served .1) (served .2) (served .3))
@@ -44,7 +45,7 @@ module _ (w : Task) where
       by-stands d′ q (gone dead behind) = gone dead (q ∙ behind)
 
       -- nothing is served behind the completion
-      by-last : (l : List Event) → Served (next s e) l (w .tag) (w .request) (cardBy s e card) → names (rowAt (next s e) (rowOf (w .tag))) (w .tag) ≡ false → drop (answersIn (givenBy s e (w .tag) ++ [])) (rest w d) ≡ [] → Stands w s (e ∷ l) d
+      by-last : (l : List Event) → ServedOf w (next s e) l (cardBy s e card) → names (rowAt (next s e) (rowOf (w .tag))) (w .tag) ≡ false → drop (answersIn (givenBy s e (w .tag) ++ [])) (rest w d) ≡ [] → Stands w s (e ∷ l) d
       by-last [] z dead none = gone dead none
       by-last (y ∷ l) z dead none = absurd (not-both (z .0) dead)
 

@@ -54,6 +54,7 @@ pub mod Demand2Bytes
 pub mod Demand2Fate
 pub mod Demand2Pieces
 pub mod Demand2Task
+pub mod Demand2Served
 pub mod Demand2Event
 pub mod Demand2Kept
 pub mod Demand2Walk
@@ -61,6 +62,7 @@ pub mod Demand2Ends
 pub mod Demand2Begun
 pub mod Demand2Asked
 pub mod Demand2
+pub mod Kept
 pub mod Owners
 pub mod Lost
 pub mod LostBytes

@@ -9,6 +9,7 @@ pub mod Others
 pub mod Alone
 pub mod Demand3
 pub mod Demand2
+pub mod Kept
 pub mod Figures
 pub mod Orders
 pub mod Run
