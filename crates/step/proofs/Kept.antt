@@ -12,8 +12,9 @@ use Rattle.model.specs.declared.Call.the-variants.{Write}
 use Rattle.model.specs.State.{State}
 use Rattle.step.specs.Step.{rowAt, rowOf, names}
 use Rattle.step.specs.Run.{Made.calls, Event, next, run, Start}
+use Rattle.step.specs.Lists.{Completed}
 use Rattle.step.specs.Demand2.{Accepted, submittedIn, PiecesDone, getsIn, Followed, AllWhole}
-use Rattle.step.specs.Kept.{QuietAt, offsetThen, Stands, Kept}
+use Rattle.step.specs.Kept.{QuietAt, offsetThen, Stands, KeptStands, Kept}
 use Rattle.step.proofs.AloneTags.{clash}
 use Rattle.step.proofs.Demand2.{quiet-along, demand2}
 
@@ -36,13 +37,18 @@ module _ (x : Start) (h : List Event) (e : Event) (t : ℕ) (q : Request) (a : A
       let z = quiet-along x h e t q a (λ j. eqb j i) card es followed whole (λ j lt on. subst (λ (k : ℕ). QuietAt (submittedIn x h e) es t (offsetThen x h q k)) (sym (eqb-true j i on)) quiet) in
       (λ done lt. z .0 done i lt (eq-eqb i i refl), z .1)
 
+-- where its answered pieces were all taken whole and it has got a completion
+whole-stands : (x : Start) (h : List Event) (e : Event) (t : ℕ) (q : Request) → Accepted x h e t q (calls (Write q)) → (card : Card) (es : List Event) → Followed (submittedIn x h e) es t → AllWhole (submittedIn x h e) es t
+    → (it : Completed) (more : List Completed) → getsIn x h e t q es ≡ it ∷ more → KeptStands x h e t q card es
+unfolding PiecesDone
+whole-stands x h e t q a card es followed whole it more got = record {
+  answered = λ es₁ es₂ front done i lt quiet.
+      let followed₁ = followed-front t es₁ es₂ (submittedIn x h e) (subst (λ (l : List Event). Followed (submittedIn x h e) l t) front followed) in
+      let whole₁ = whole-front t es₁ es₂ (submittedIn x h e) (subst (λ (l : List Event). AllWhole (submittedIn x h e) l t) front whole) in
+      one-byte x h e t q a card es₁ followed₁ whole₁ i quiet .0 done lt;
+  completed = λ i lt quiet. let z = one-byte x h e t q a card es followed whole i quiet in z .0 (λ named. clash (let y = sym (z .1 named) ∙ got in cc)) lt;
+}
+
 pub kept : Kept
-unfolding Kept PiecesDone
-kept x h e t q a card es followed c bytes more got ok =
-    let whole = demand2 .kept x h e t q a es followed c bytes more got ok .0 in
-    record {
-      answered = λ es₁ es₂ front done i lt quiet. one-byte x h e t q a card es₁
-          (followed-front t es₁ es₂ (submittedIn x h e) (subst (λ (l : List Event). Followed (submittedIn x h e) l t) front followed))
-          (whole-front t es₁ es₂ (submittedIn x h e) (subst (λ (l : List Event). AllWhole (submittedIn x h e) l t) front whole)) i quiet .0 done lt;
-      completed = λ i lt quiet. let z = one-byte x h e t q a card es followed whole i quiet in z .0 (λ named. clash (let y = sym (z .1 named) ∙ got in cc)) lt;
-    }
+unfolding Kept
+kept x h e t q a card es followed c bytes more got ok = whole-stands x h e t q a card es followed (demand2 .kept x h e t q a es followed c bytes more got ok .0) (c, bytes) more got

@@ -27,6 +27,7 @@ pub mod AloneTags
 pub mod Rounds
 pub mod Figures
 pub mod Orders
+pub mod KeptRuns
 pub mod Asked
 pub mod QuietRules
 pub mod ProjectionFixed

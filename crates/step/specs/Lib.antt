@@ -12,4 +12,5 @@ pub mod Demand2
 pub mod Kept
 pub mod Figures
 pub mod Orders
+pub mod KeptRuns
 pub mod Run
