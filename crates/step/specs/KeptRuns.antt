@@ -1,6 +1,6 @@
--- What Kept.antt says, of one write in small runs, found by running `step` and not by the theorem: each clause stands here by itself, so that a step
--- that counts a lost piece as kept is refused at the clause. The opening and the pool are those of Orders.antt. The write of 512 to 1,536 from buffer
--- 0, under the queue tag 0, has two pieces: bytes 0 to 512, all 5, go to 1,536, and bytes 512 to 1,024, all 6, to 8,192. Proved in
+-- What Kept.antt says, of one write in small runs, found by running `step` and not by the theorem: each clause stands here by itself, so that a
+-- step that counts a lost piece as kept is refused at the clause. The opening and the pool are those of Orders.antt. The write of 512 to 1,536 from
+-- buffer 0, under the queue tag 0, has two pieces: bytes 0 to 512, all 5, go to 1,536, and bytes 512 to 1,024, all 6, to 8,192. Proved in
 -- proofs/KeptRuns.antt (kept-runs).
 use mathlib.Core.Path.{_≡_}
 use mathlib.Core.Bool.{Bool, true, false}
