@@ -6,7 +6,7 @@
 use mathlib.Core.Path.{_≡_}
 use mathlib.Core.Bool.{true}
 use mathlib.Core.List.{List, [], _∷_, _++_}
-use Prim.Native.Nat.{ℕ}
+use Prim.Native.Nat.{ℕ, _+_, _<_}
 use lib.ListN.{length, take, getD, replicate}
 use Rattle.posix.specs.Posix.{Card}
 use Rattle.completion.specs.declared.Completion.{Completion}
@@ -58,21 +58,21 @@ module _ (admitted : opens opening figuresPlan lengths ≡ true) (whole : length
     pub gets : getsIn (start admitted whole) [] submits 0 its events ≡ (written, replicate 512 5 ++ replicate 512 6) ∷ []
     pub is-kept : isKept (written .outcome) ≡ true
 
-  -- byte 512, the first of its second piece, at 8,192: no other piece was under way there, and so, by the theorem, it stands
+  -- the bytes of its second piece, at 8,192: no other piece was under way there, and so, by the theorem, they stand
   pub record Quiet : Type 0 where
-    pub at : offsetOf 512 ≡ 8192
-    pub quiet : QuietAt submittedBy events 0 (offsetOf 512)
-    pub stands : (card : Card) → ByteStands card events 512
+    pub at : (j : ℕ) → j < 512 → offsetOf (512 + j) ≡ 8192 + j
+    pub quiet : (j : ℕ) → j < 512 → QuietAt submittedBy events 0 (offsetOf (512 + j))
+    pub stands : (card : Card) (j : ℕ) → j < 512 → ByteStands card events (512 + j)
 
-  -- byte 0, at 1,536, stood when its own piece was answered; at the completion the other write's byte is there, and that write too is counted as
-  -- kept
+  -- the bytes of its first piece, at 1,536: they stood when that piece was answered; at the completion the other write's bytes are there, and that
+  -- write too is counted as kept
   pub record Covered : Type 0 where
-    pub at : offsetOf 0 ≡ 1536
-    pub not-quiet : QuietAt submittedBy events 0 (offsetOf 0) → ⊥
-    pub first-answered : (card : Card) → ByteStands card (take 1 events) 0
-    pub its-own : getD (bufferThen (start admitted whole) submits its) 0 0 ≡ 5
-    pub the-others : (card : Card) → cardAfter submittedBy events card (offsetOf 0) ≡ 9
-    pub stands-not : (card : Card) → ByteStands card events 0 → ⊥
+    pub at : (i : ℕ) → i < 512 → offsetOf i ≡ 1536 + i
+    pub not-quiet : (i : ℕ) → i < 512 → QuietAt submittedBy events 0 (offsetOf i) → ⊥
+    pub first-answered : (card : Card) (i : ℕ) → i < 512 → ByteStands card (take 1 events) i
+    pub its-own : (i : ℕ) → i < 512 → getD (bufferThen (start admitted whole) submits its) i 0 ≡ 5
+    pub the-others : (card : Card) (i : ℕ) → i < 512 → cardAfter submittedBy events card (offsetOf i) ≡ 9
+    pub stands-not : (card : Card) (i : ℕ) → i < 512 → ByteStands card events i → ⊥
     pub other-kept : countedKept (gets submittedBy events 1 1) ≡ true ∷ []
 
 pub record Overlapped : Type 0 where

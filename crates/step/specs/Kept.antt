@@ -37,11 +37,11 @@ abbrev pub Stands : Start → List Event → Event → Request → Card → List
 Stands x h e q card es i = cardAfter (submittedIn x h e) es card (offsetThen x h q i) ≡ getD (bufferThen x e q) i 0
 
 pub record KeptStands (x : Start) (h : List Event) (e : Event) (t : ℕ) (q : Request) (card : Card) (es : List Event) : Type 0 where
-  -- "when its last piece was answered": after every front es₁ of the events at whose end its pieces are done. Of a durable write that is before its
-  -- flush result, and es₂ has what comes from there on; es₂ may be []
+  -- when its last piece was answered: after every front es₁ of the events at whose end its pieces are done. Of a durable write that may be before its
+  -- flush result, which then is in es₂; es₂ may be []
   pub answered : (es₁ es₂ : List Event) → es ≡ es₁ ++ es₂ → PiecesDone (run (submittedIn x h e) es₁) t
       → (i : ℕ) → i < wholeOf q → QuietAt (submittedIn x h e) es₁ t (offsetThen x h q i) → Stands x h e q card es₁ i
-  -- "and at its completion", of a durable write by its flush result: after all of the events
+  -- and at its completion, of a durable write by its flush result: after all of the events
   pub completed : (i : ℕ) → i < wholeOf q → QuietAt (submittedIn x h e) es t (offsetThen x h q i) → Stands x h e q card es i
 
 unfoldable pub Kept : Type 0
