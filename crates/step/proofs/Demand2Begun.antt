@@ -145,7 +145,8 @@ module _ (x : Start) (s : State) (sound : Sound s) (fixed : Fixed x s) (e : Even
       (λ j. rowAt (next-is j) ((ap rowOf (sym (g .tag)) ∙ row-of-tag top (rowAt s₁ top .generation) small) j))
       ∙ getD-set-same (s₁ .rows) top (claimedBy (rowAt s₁ top .generation) (s₁ .counts .submissions) k q) (freed 0) (let lt = top-row s₁ sound₁ (g .passed .room) in let rows = sound₁ .rows in omega (arith, lt, rows))
 
-  module _ (first : firstOf k ≡ q .offset) (last : lastOf k .0 ≡ q .offset .0 + q .length) (new : List ℕ) (long : length new ≡ q .length) (of-write : pages k ≡ true → new ≡ take (q .length) then) where
+  module _ (first : firstOf k ≡ q .offset) (last : lastOf k .0 ≡ q .offset .0 + q .length) (new : List ℕ) (long : length new ≡ q .length) (of-write : pages k ≡ true → new ≡ take (q .length) then)
+      (watched : ℕ → Bool) (of-read : pages k ≡ false → (i : ℕ) → watched i ≡ true) where
     abbrev pub task : Task
     task = record {
       tag = t;
@@ -162,6 +163,8 @@ module _ (x : Start) (s : State) (sound : Sound s) (fixed : Fixed x s) (e : Even
       long-new = long;
       long-old = length-take-le (q .length) then then-length;
       of-write = of-write;
+      watched = watched;
+      of-read = of-read;
       lawful = sound .each (q .handle) region .lawful;
       in-data = in-data;
       distinct = λ i j li lj same. add-left-cancel (q .offset .0) (sound .apart (q .handle) (q .handle) (q .offset .0 + i) (q .offset .0 + j) region region (in-capacity i li) (in-capacity j lj) same .1);
@@ -191,5 +194,5 @@ module _ (x : Start) (s : State) (sound : Sound s) (fixed : Fixed x s) (e : Even
       plan-is = next-plans s e (q .handle);
       map-is = ap (λ (p : Plan). p .map) (next-plans s e (q .handle));
       bytes = ap (drop (hostsOf task 0)) (bytes-are ∙ sym (take-append-drop (q .length) then));
-      card-is = λ i. by-pick (pages k) (λ (n : ℕ). i < n → card (place m (q .offset .0 + i)) ≡ getD new i 0) (λ page lt. absurd (omega (arith, lt))) (λ read lt. reads read i lt);
+      card-is = λ i. by-pick (pages k) (λ (n : ℕ). i < n → watched i ≡ true → card (place m (q .offset .0 + i)) ≡ getD new i 0) (λ page lt on. absurd (omega (arith, lt))) (λ read lt on. reads read i lt);
     }

@@ -92,16 +92,16 @@ module _ (at : ℕ → ℕ) (new : List ℕ) (d n : ℕ) (le : d + n ≤ length 
       transfer-laws .reads card (at d) n j lt ∙ ap card (sym (consecutive j lt)) ∙ same (d + j) (omega arith) ∙ sym (piece-at j lt))
 
   -- what is written there
-  pub piece-written : (card : Card) → ((i j : ℕ) → i < length new → j < length new → at i ≡ at j → i ≡ j) → ((i : ℕ) → i < d → card (at i) ≡ getD new i 0)
-      → (i : ℕ) → i < d + n → pwrite card (at d) (take n (drop d new)) (at i) ≡ getD new i 0
-  piece-written card distinct same i lt = by-case (decLt i d)
+  pub piece-written : (card : Card) → ((i j : ℕ) → i < length new → j < length new → at i ≡ at j → i ≡ j) → (i : ℕ) → (i < d → card (at i) ≡ getD new i 0)
+      → i < d + n → pwrite card (at d) (take n (drop d new)) (at i) ≡ getD new i 0
+  piece-written card distinct i same lt = by-case (decLt i d)
     where
       by-case : Dec (i < d) → pwrite card (at d) (take n (drop d new)) (at i) ≡ getD new i 0
       by-case (yes h) =
           transfer-laws .others card (at d) (take n (drop d new)) (at i)
           (λ j l e. let k : j < n = omega (arith, l, piece-length) in
           let z = distinct (d + j) i (omega arith) (omega arith) (consecutive j k ∙ e) in omega arith)
-          ∙ same i h
+          ∙ same h
       by-case (no h) =
           let j = i - d in
           let k : j < n = omega arith in

@@ -12,7 +12,7 @@ use lib.Seq.{drop-length, drop-append-seam}
 use Rattle.layout.specs.Pick.{pick}
 use Rattle.layout.proofs.Tests.{not-both, true-or-false}
 use Rattle.regionmap.specs.declared.Position.{Position}
-use Rattle.regionmap.specs.Map.{Map, place}
+use Rattle.regionmap.specs.Map.{place}
 use Rattle.posix.specs.Posix.{Card, pwrite}
 use Rattle.platform.specs.declared.Answer.{Answer}
 use Rattle.platform.specs.declared.Flushed.{Flushed}
@@ -41,7 +41,7 @@ use Rattle.step.specs.Step.{rowAt, rowOf, isLive, names, bytesAt, raised
 use Rattle.step.specs.Sound.{Sound}
 use Rattle.step.specs.Run.{Made, Made.calls, Made.looks, Event, leave, done, next, replyTo}
 use Rattle.step.specs.Lists.{brought, isAway, planAt, leftIn, Given, givenAs, givenBy, Completed, withBytes, addedBy, isBrought, takesWhole, wroteBy, tagIn, cardBy, HostMay}
-use Rattle.step.specs.Demand2.{WholeTo, TakenWhole, Undisturbed, countOf, countGiven, resultOf, resultGiven, answersOf, answersIn, durablyTo, writtenTo}
+use Rattle.step.specs.Demand2.{WholeTo, countOf, countGiven, resultOf, resultGiven, answersOf, answersIn, durablyTo, writtenTo}
 use Rattle.step.proofs.Picked.{by-pick}
 use Rattle.step.proofs.Away.{turned-away}
 use Rattle.step.proofs.AloneTags.{clash, live-in, names-live, names-generation, names-by}
@@ -58,6 +58,7 @@ use Rattle.step.proofs.Demand2Others.{pool-others, other-row, done-row}
 use Rattle.step.proofs.Demand2Bytes.{lying, lying-last, turned-on, turned-last, piece-written}
 use Rattle.step.proofs.Demand2Fate.{pages, Whole, Whole.next-piece, Whole.its-flush, Whole.completes, answer-whole}
 use Rattle.step.proofs.Demand2Task.{Task, mappedTo, splitOf, sizeOf, hostsOf, onCard, ItsTicket, Stage, Stage.piece, Stage.flush, InRow, Open, piece-ends, rest, rest-first, rest-none, consecutive, piece-place, piece-size, loose-is, is-new}
+use Rattle.step.proofs.Demand2Served.{Taken, Clear, map-next}
 
 -- ---- an event that is turned away, or not
 
@@ -117,9 +118,9 @@ module _ (s : State) (e : Event) (t : ℕ) (i : Input) (bt : brought t (e .made)
 
 -- ---- what the event comes to
 
--- the whole range is on the card
+-- the whole range is on the card, of the bytes that are followed
 abbrev pub Arrived : Task → Card → Type 0
-Arrived w card = (i : ℕ) → i < w .request .length → card (mappedTo w i) ≡ getD (w .new) i 0
+Arrived w card = (i : ℕ) → i < w .request .length → w .watched i ≡ true → card (mappedTo w i) ≡ getD (w .new) i 0
 
 -- the completion, of the table s as it leaves it, by the flush count last given and the flush result, if there was one
 pub record Finished (w : Task) (s : State) (flushes : ℕ) (result : Option Flushed) (c : Completion) : Type 0 where
@@ -180,7 +181,7 @@ unfolding wroteBy pages
 wrote-read g (Page a b) sp bytes v card reads = absurd (not-both refl reads)
 wrote-read g (Read a b) sp bytes v card reads = refl
 
-module _ (w : Task) (s : State) (card : Card) (d given : ℕ) (o : Open w s card d given) (e : Event) (host : HostMay s (e .leaves)) (taken : TakenWhole s e (w .tag) card) (alone : Undisturbed s (w .tag) (w .request)) where
+module _ (w : Task) (s : State) (card : Card) (d given : ℕ) (o : Open w s card d given) (e : Event) (host : HostMay s (e .leaves)) (taken : Taken w s e card) (alone : Clear w s) where
   abbrev t : ℕ
   t = w .tag
 
@@ -205,10 +206,6 @@ module _ (w : Task) (s : State) (card : Card) (d given : ℕ) (o : Open w s card
   map-left : regionAt left (w .request .handle) .map ≡ w .map
   unfolding regionAt leave
   map-left = o .map-is
-
-  map-next : regionAt (next s e) (w .request .handle) .map ≡ w .map
-  unfolding planOf
-  map-next = ap (λ (g : Plan). g .map) (next-plans s e (w .request .handle)) ∙ o .map-is
 
   settings-next : next s e .settings ≡ w .opening
   unfolding next leave
@@ -238,15 +235,15 @@ module _ (w : Task) (s : State) (card : Card) (d given : ℕ) (o : Open w s card
 
   -- ---- the operation stays as it stands
 
-  stays : rowAt (next s e) (rowOf t) ≡ r → bytesAt (next s e) b ≡ bytesAt left b → ((i : ℕ) → i < w .request .length → cardBy s e card (mappedTo w i) ≡ card (mappedTo w i)) → Open w (next s e) (cardBy s e card) d given
+  stays : rowAt (next s e) (rowOf t) ≡ r → bytesAt (next s e) b ≡ bytesAt left b → ((i : ℕ) → i < w .request .length → w .watched i ≡ true → cardBy s e card (mappedTo w i) ≡ card (mappedTo w i)) → Open w (next s e) (cardBy s e card) d given
   stays row bytes same = record {
     sound = sound-next;
     in-row = subst (λ (x : Row). InRow w x d given) (sym row) (o .in-row);
     settings-are = settings-next;
     plan-is = plan-next;
-    map-is = map-next;
+    map-is = map-next w s e (o .map-is);
     bytes = ap (drop (hostsOf w d)) bytes ∙ bytes-left;
-    card-is = λ i lt. same i (on-card-most w d i (stage-most w d given (r .awaits) (o .in-row .stage)) lt) ∙ o .card-is i lt;
+    card-is = λ i lt on. same i (on-card-most w d i (stage-most w d given (r .awaits) (o .in-row .stage)) lt) on ∙ o .card-is i lt on;
   }
 
   -- an event for another
@@ -254,9 +251,9 @@ module _ (w : Task) (s : State) (card : Card) (d given : ℕ) (o : Open w s card
     other-tag : (i : Input) → brought (tagIn (e .made)) (e .made) ≡ some i → tagIn (e .made) ≢ t
     other-tag i bu same = clash (let z : some i ≡ none = sym bu ∙ ap (λ (u : ℕ). brought u (e .made)) same ∙ bt in cc)
 
-    other-card : (i : ℕ) → i < w .request .length → cardBy s e card (mappedTo w i) ≡ card (mappedTo w i)
-    unfolding cardBy Undisturbed
-    other-card i lt = by-pick (isAway (replyTo s e)) (λ (after : Card). after y ≡ card y) (λ gone. refl) (λ heard. by-brought (brought u (e .made)) refl heard)
+    other-card : (i : ℕ) → i < w .request .length → w .watched i ≡ true → cardBy s e card (mappedTo w i) ≡ card (mappedTo w i)
+    unfolding cardBy Clear
+    other-card i lt on = by-pick (isAway (replyTo s e)) (λ (after : Card). after y ≡ card y) (λ gone. refl) (λ heard. by-brought (brought u (e .made)) refl heard)
       where
         u : ℕ
         u = tagIn (e .made)
@@ -270,7 +267,7 @@ module _ (w : Task) (s : State) (card : Card) (d given : ℕ) (o : Open w s card
         by-name : (j : Input) → brought u (e .made) ≡ some j → isAway (replyTo s e) ≡ false → (n : Bool) → names its u ≡ n → wroteBy (planAt s its) (its .awaits) (bytesAt left (its .buffer)) (some j) card y ≡ card y
         by-name j q heard true here =
             wrote-beside (planAt s its) (its .awaits) (bytesAt left (its .buffer)) (some j) card y
-            (λ written. alone (rowOf u) i y (other-row s (o .sound) t (o .in-row .named) u (other-tag j q) here) written lt (ap (λ (m : Map). place m (w .request .offset .0 + i)) (o .map-is)))
+            (alone i lt on (rowOf u) (other-row s (o .sound) t (o .in-row .named) u (other-tag j q) here))
         by-name j q heard false n = absurd (not-both (unnamed-away s e u j q n) heard)
 
         by-brought : (v : Option Input) → brought u (e .made) ≡ v → isAway (replyTo s e) ≡ false → wroteBy (planAt s its) (its .awaits) (bytesAt left (its .buffer)) v card y ≡ card y
@@ -309,7 +306,7 @@ module _ (w : Task) (s : State) (card : Card) (d given : ℕ) (o : Open w s card
     unfolding rowAt leave givenBy givenAs pick
     came-away gone =
         let same = away-same s e gone in
-        still d given (stays (ap (λ (z : State). rowAt z (rowOf t)) same) (ap (λ (z : State). bytesAt z b) same) (λ j lt. ap (λ (after : Card). after (mappedTo w j)) (away-card s e card gone))) (gets-none (ap (λ (z : State). z .ready) same))
+        still d given (stays (ap (λ (z : State). rowAt z (rowOf t)) same) (ap (λ (z : State). bytesAt z b) same) (λ j lt on. ap (λ (after : Card). after (mappedTo w j)) (away-card s e card gone))) (gets-none (ap (λ (z : State). z .ready) same))
         (nothing-given (givenBy s e t) ((λ j. givenAs (bt j) (gone j) (leftIn left r))))
 
     module _ (heard : isAway (replyTo s e) ≡ false) where
@@ -352,7 +349,7 @@ module _ (w : Task) (s : State) (card : Card) (d given : ℕ) (o : Open w s card
 
       -- it goes on
       goes-on : (a : Awaits) (bytes : List ℕ) (d′ n′ : ℕ) → f ≡ awaits a bytes → Counts w d given ((i, leftIn left r) ∷ []) d′ n′ → Stage w d′ n′ a → drop (hostsOf w d′) bytes ≡ drop (hostsOf w d′) (lies d′)
-          → ((j : ℕ) → j < onCard w d′ → cardBy s e card (mappedTo w j) ≡ getD (w .new) j 0) → Came w s card d given e
+          → ((j : ℕ) → j < onCard w d′ → w .watched j ≡ true → cardBy s e card (mappedTo w j) ≡ getD (w .new) j 0) → Came w s card d given e
       unfolding settled going Fitting awaitsNow leave
       goes-on a bytes d′ n′ q counts stage held same =
           let z = next-is (awaits a bytes) q in
@@ -375,7 +372,7 @@ module _ (w : Task) (s : State) (card : Card) (d given : ℕ) (o : Open w s card
                 });
             settings-are = settings-next;
             plan-is = plan-next;
-            map-is = map-next;
+            map-is = map-next w s e (o .map-is);
             bytes = ap (drop (hostsOf w d′)) there ∙ held;
             card-is = same;
           })
@@ -415,11 +412,11 @@ module _ (w : Task) (s : State) (card : Card) (d given : ℕ) (o : Open w s card
         bytes = bytesAt left b
 
         is-whole : (isWhole (pieceLength (planAt s r) (w .kind) (splitOf w d)) x ≡ true) × (back ≡ true)
-        unfolding TakenWhole WholeTo
+        unfolding Taken WholeTo
         is-whole = subst₂ (WholeTo s r) at is (taken i bt heard .0)
 
         new-is : (take n bytes ≡ take n (drop d (w .new))) × (drop n bytes ≡ drop n (lies d))
-        unfolding TakenWhole
+        unfolding Taken
         new-is = is-new w left r d given (o .in-row) map-left at more card bytes-left (o .card-is) (taken i bt heard .1)
 
         its-whole : Whole (w .opening) (w .plan) (regionAt s (w .request .handle) .forced) (s .poison) flushes r (w .kind) (splitOf w d) n bytes f
@@ -452,25 +449,25 @@ module _ (w : Task) (s : State) (card : Card) (d given : ℕ) (o : Open w s card
         one-result = ap (λ (v : Input). resultOf v none) is
 
         -- on the card
-        card-after : (j : ℕ) → j < onCard w (d + n) → cardBy s e card (mappedTo w j) ≡ getD (w .new) j 0
+        card-after : (j : ℕ) → j < onCard w (d + n) → w .watched j ≡ true → cardBy s e card (mappedTo w j) ≡ getD (w .new) j 0
         unfolding pick
         card-after = by-kind (true-or-false (pages (w .kind)))
           where
             came-to : cardBy s e card ≡ wroteBy (planAt s r) (Piece (w .kind) (splitOf w d)) (bytesAt left b) (some (answered x back flushes)) card
             came-to = card-own ∙ (λ j. wroteBy (planAt s r) (at j) (bytesAt left (o .in-row .buffer j)) (some (is j)) card)
 
-            by-kind : (pages (w .kind) ≡ true) ⊎ (pages (w .kind) ≡ false) → (j : ℕ) → j < onCard w (d + n) → cardBy s e card (mappedTo w j) ≡ getD (w .new) j 0
-            by-kind (inl page) j lt =
+            by-kind : (pages (w .kind) ≡ true) ⊎ (pages (w .kind) ≡ false) → (j : ℕ) → j < onCard w (d + n) → w .watched j ≡ true → cardBy s e card (mappedTo w j) ≡ getD (w .new) j 0
+            by-kind (inl page) j lt on =
                 ap (λ (after : Card). after (mappedTo w j))
                 (came-to ∙ wrote-page (planAt s r) (w .kind) (splitOf w d) (bytesAt left b) x back flushes card page (is-whole .0)
                 ∙ (λ k. pwrite card (piece-place w s r (o .in-row .handle) (o .map-is) d k) (take (piece-size w s r (o .in-row .handle) (o .map-is) d k) (bytesAt left b)))
                 ∙ ap (pwrite card (mappedTo w d)) (new-is .0))
                 ∙ piece-written (mappedTo w) (w .new) d n (let z = w .long-new in let y = piece-ends w d more in omega (arith, z, y)) (consecutive w d more) card
                 (λ k l lk ll. w .distinct k l (let z = w .long-new in omega (arith, z, lk)) (let z = w .long-new in omega (arith, z, ll)))
-                (λ k lk. o .card-is k (rw page lk)) j (rw page at lt)
-            by-kind (inr reads) j lt =
+                j (λ lk. o .card-is j (rw page lk) on) (rw page at lt)
+            by-kind (inr reads) j lt on =
                 ap (λ (after : Card). after (mappedTo w j)) (came-to ∙ wrote-read (planAt s r) (w .kind) (splitOf w d) (bytesAt left b) (some (answered x back flushes)) card reads)
-                ∙ o .card-is j (rw reads (rw reads at lt))
+                ∙ o .card-is j (rw reads (rw reads at lt)) on
 
         came-whole : Whole (w .opening) (w .plan) (regionAt s (w .request .handle) .forced) (s .poison) flushes r (w .kind) (splitOf w d) n bytes f → Came w s card d given e
         unfolding splitAfter pick
@@ -482,13 +479,13 @@ module _ (w : Task) (s : State) (card : Card) (d given : ℕ) (o : Open w s card
             (ap (drop (hostsOf w (w .request .length)))
             (turned-last (w .new) (w .old) (w .tail) (w .request .length) (w .long-new) (w .long-old) d n (piece-ends w d more) bytes (new-is .0) (new-is .1) all
             ∙ sym (lying-last (w .new) (w .old) (w .tail) (w .request .length) (w .long-new) (w .long-old))))
-            (subst (λ (m : ℕ). (j : ℕ) → j < onCard w m → cardBy s e card (mappedTo w j) ≡ getD (w .new) j 0) all card-after)
+            (subst (λ (m : ℕ). (j : ℕ) → j < onCard w m → w .watched j ≡ true → cardBy s e card (mappedTo w j) ≡ getD (w .new) j 0) all card-after)
         came-whole (completes all y outcome wrote q) =
             ends-with y (w .request .length) _ q refl
             (turned-last (w .new) (w .old) (w .tail) (w .request .length) (w .long-new) (w .long-old) d n (piece-ends w d more) bytes (new-is .0) (new-is .1) all) outcome
             (λ page. wrote page .outcome ∙ (λ j. writtenTo (w .opening) (s .poison) (o .in-row .durable page j) (ticketOf (w .opening) (w .plan) (w .kind) (sym one-last j)) (sym one-result j)))
             (λ page durable z. wrote page .policy (o .in-row .durable page ∙ durable))
-            (λ j lt. card-after j (on-card-all w (d + n) j all lt)) (unfold answersIn in one-count [] .2 ∙ rest-none w (d + n) all)
+            (λ j lt on. card-after j (on-card-all w (d + n) j all lt) on) (unfold answersIn in one-count [] .2 ∙ rest-none w (d + n) all)
 
         came-piece : Came w s card d given e
         came-piece = came-whole its-whole
@@ -508,8 +505,8 @@ module _ (w : Task) (s : State) (card : Card) (d given : ℕ) (o : Open w s card
             (λ j. flushOutcome (o .settings-are j) (its .is j) result)
             ∙ (λ j. writtenTo (w .opening) (s .poison) (sym (its .durable) j) (ticketOf (w .opening) (w .plan) (w .kind) (countOf (sym is j) given)) (resultOf (sym is j) none)))
             (λ writes durable z. clash (let y : some result ≡ none = sym (ap (λ (v : Input). resultOf v none) is) ∙ z in cc))
-            (λ j lt. ap (λ (after : Card). after (mappedTo w j)) (card-own ∙ ap (λ (a : Awaits). wroteBy (planAt s r) a (bytesAt left (r .buffer)) (some i) card) at)
-            ∙ o .card-is j (on-card-all w d j all lt))
+            (λ j lt on. ap (λ (after : Card). after (mappedTo w j)) (card-own ∙ ap (λ (a : Awaits). wroteBy (planAt s r) a (bytesAt left (r .buffer)) (some i) card) at)
+            ∙ o .card-is j (on-card-all w d j all lt) on)
             ((λ j. drop (answersOf (is j) 0) (rest w d)) ∙ rest-none w d all)
 
       came-heard : Stage w d given (r .awaits) → (v : Input) → i ≡ v → Came w s card d given e

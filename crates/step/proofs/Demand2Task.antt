@@ -1,6 +1,6 @@
 -- An operation that is served as demand 2 supposes, and where it stands in a table: the row that its tag names awaits the piece behind d bytes, or its flush;
--- its buffer holds the new bytes behind the old ones left, but for the piece of a read under way, which is the host's; of a write the first d bytes have arrived
--- on the card, and of a read the card's bytes are the new ones.
+-- its buffer holds the new bytes behind the old ones left, but for the piece of a read under way, which is the host's; of a write the first d bytes that are
+-- followed have arrived on the card, and of a read the card's bytes are the new ones.
 use mathlib.Core.Path.{_≡_, refl, sym, ap, _∙_, subst}
 use mathlib.Core.Bool.{Bool, true, false}
 use mathlib.Core.List.{List, [], _∷_}
@@ -54,6 +54,9 @@ pub record Task : Type 0 where
   pub long-new : length new ≡ request .length
   pub long-old : length old ≡ request .length
   pub of-write : pages kind ≡ true → new ≡ old
+  -- the bytes of its range that are followed on the card: of a read all are, since they come from there
+  pub watched : ℕ → Bool
+  pub of-read : pages kind ≡ false → (i : ℕ) → watched i ≡ true
   pub lawful : Lawful map
   pub in-data : request .offset .0 + request .length ≤ map .dataLength
   pub distinct : (i j : ℕ) → i < request .length → j < request .length → place map (request .offset .0 + i) ≡ place map (request .offset .0 + j) → i ≡ j
@@ -110,7 +113,7 @@ pub record Open (w : Task) (s : State) (card : Card) (d n : ℕ) : Type 0 where
   pub plan-is : planOf (regionAt s (w .request .handle)) ≡ w .plan
   pub map-is : regionAt s (w .request .handle) .map ≡ w .map
   pub bytes : drop (hostsOf w d) (bytesAt s (w .request .buffer)) ≡ drop (hostsOf w d) (lying (w .new) (w .old) (w .tail) d)
-  pub card-is : (i : ℕ) → i < onCard w d → card (mappedTo w i) ≡ getD (w .new) i 0
+  pub card-is : (i : ℕ) → i < onCard w d → w .watched i ≡ true → card (mappedTo w i) ≡ getD (w .new) i 0
 
 -- ---- its pieces
 
@@ -163,8 +166,8 @@ module _ (w : Task) (s : State) (r : Row) (handle : r .handle ≡ w .request .ha
 -- ---- the bytes of a piece that is taken whole are the new ones
 
 module _ (w : Task) (s : State) (r : Row) (d c : ℕ) (o : InRow w r d c) (map-is : regionAt s (w .request .handle) .map ≡ w .map) (at : r .awaits ≡ Piece (w .kind) (splitOf w d)) (left : d < w .request .length) (card : Card)
-    (held : drop (hostsOf w d) (bytesAt s (w .request .buffer)) ≡ drop (hostsOf w d) (lying (w .new) (w .old) (w .tail) d)) (same : (i : ℕ) → i < onCard w d → card (mappedTo w i) ≡ getD (w .new) i 0)
-    (holds : HoldsCard s r (r .awaits) card) where
+    (held : drop (hostsOf w d) (bytesAt s (w .request .buffer)) ≡ drop (hostsOf w d) (lying (w .new) (w .old) (w .tail) d)) (same : (i : ℕ) → i < onCard w d → w .watched i ≡ true → card (mappedTo w i) ≡ getD (w .new) i 0)
+    (holds : pages (w .kind) ≡ false → HoldsCard s r (r .awaits) card) where
   abbrev bytes : List ℕ
   bytes = bytesAt s (w .request .buffer)
 
@@ -191,7 +194,7 @@ module _ (w : Task) (s : State) (r : Row) (d c : ℕ) (o : InRow w r d c) (map-i
       let ends = piece-ends w d left in
       let long = w .long-new in (
         sym here ∙ came ∙ there
-            ∙ piece-read (mappedTo w) (w .new) d n (omega (arith, ends, long)) (consecutive w d left) card (λ i lt. same i (omega (arith, lt, whole, long))),
+            ∙ piece-read (mappedTo w) (w .new) d n (omega (arith, ends, long)) (consecutive w d left) card (λ i lt. same i (omega (arith, lt, whole, long)) (w .of-read reads i)),
         subst (λ (m : ℕ). drop m bytes ≡ drop m (lying (w .new) (w .old) (w .tail) d)) host held,
       )
 
@@ -204,4 +207,4 @@ module _ (w : Task) (s : State) (r : Row) (d c : ℕ) (o : InRow w r d c) (map-i
       by-kind (Read a b) q =
           read-new (ap pages q)
           (subst (λ (k : Kind). leftIn s r ≡ pread card (place (planAt s r .map) (firstOf k .0 + d)) (pieceLength (planAt s r) k (splitOf w d))) (sym q)
-          (unfold firstOf in subst (λ (z : Awaits). HoldsCard s r z card) (at ∙ ap (λ (k : Kind). Piece k (splitOf w d)) q) holds))
+          (unfold firstOf in subst (λ (z : Awaits). HoldsCard s r z card) (at ∙ ap (λ (k : Kind). Piece k (splitOf w d)) q) (holds (ap pages q))))

@@ -13,8 +13,9 @@ use Rattle.model.specs.State.{State}
 use Rattle.step.specs.Step.{rowAt, rowOf, names}
 use Rattle.step.specs.Run.{Event, next, run}
 use Rattle.step.specs.Lists.{Given, givenBy, given, Completed, gets, cardBy, cardAfter}
-use Rattle.step.specs.Demand2.{Served, NoPiece, PiecesDone, Over, countGiven, resultGiven}
+use Rattle.step.specs.Demand2.{NoPiece, PiecesDone, Over, countGiven, resultGiven}
 use Rattle.step.proofs.Demand2Task.{Task, Stage, Stage.piece, Stage.flush, Open}
+use Rattle.step.proofs.Demand2Served.{ServedOf}
 use Rattle.step.proofs.Demand2Event.{Arrived, Finished, getsOf, Came, Came.still, Came.over, came, on-card-all}
 
 -- the operation is over: its one completion
@@ -36,13 +37,13 @@ module _ (w : Task) where
     where
       by-stage : Stage w d n (rowAt s (rowOf (w .tag)) .awaits) → Arrived w card
       by-stage (piece e more) = absurd (subst NoPiece e (pieces (o .in-row .named)))
-      by-stage (flush t e page all long) = λ i lt. o .card-is i (on-card-all w d i all lt)
+      by-stage (flush t e page all long) = λ i lt on. o .card-is i (on-card-all w d i all lt) on
 
   -- nothing is served behind the completion
-  ended : (s : State) (card : Card) (n : ℕ) (e : Event) (es : List Event) → names (rowAt (next s e) (rowOf (w .tag))) (w .tag) ≡ false → Served (next s e) es (w .tag) (w .request) (cardBy s e card)
+  ended : (s : State) (card : Card) (n : ℕ) (e : Event) (es : List Event) → names (rowAt (next s e) (rowOf (w .tag))) (w .tag) ≡ false → ServedOf w (next s e) es (cardBy s e card)
       → Arrived w (cardBy s e card) → (c : Completion) (g : Given) → givenBy s e (w .tag) ≡ g ∷ [] → Finished w (next s e) (countGiven n (g ∷ [])) (resultGiven (g ∷ [])) c
       → getsOf s e (w .tag) (w .request .buffer) ≡ (c, w .new ++ w .tail) ∷ [] → Along w s (e ∷ es) card n
-  unfolding Served run cardAfter gets given
+  unfolding ServedOf run cardAfter gets given
   ended s card n e [] dead served arrived c g q finished got =
       let all : givenBy s e (w .tag) ++ [] ≡ g ∷ [] = ap (λ (l : List Given). l ++ []) q in
       record {
@@ -56,8 +57,8 @@ module _ (w : Task) where
       }
   ended s card n e (x ∷ es) dead served arrived c g q finished got = absurd (not-both (served .0) dead)
 
-  pub walk : (es : List Event) (s : State) (card : Card) (d n : ℕ) → Open w s card d n → Served s es (w .tag) (w .request) card → Along w s es card n
-  unfolding Served run cardAfter gets given
+  pub walk : (es : List Event) (s : State) (card : Card) (d n : ℕ) → Open w s card d n → ServedOf w s es card → Along w s es card n
+  unfolding ServedOf run cardAfter gets given
   walk [] s card d n o served = record { arrived = flush-only s card d n o; completed = λ gone. absurd (not-both (o .in-row .named) gone); none-yet = λ here. refl }
   walk (e ∷ es) s card d n o served =
       by-came (λ d′ n′ o′. walk es (next s e) (cardBy s e card) d′ n′ o′ (served .4)) (came w s card d n o e (served .1) (served .2) (served .3))

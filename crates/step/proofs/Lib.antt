@@ -27,6 +27,7 @@ pub mod AloneTags
 pub mod Rounds
 pub mod Figures
 pub mod Orders
+pub mod KeptRuns
 pub mod Asked
 pub mod QuietRules
 pub mod ProjectionFixed
@@ -54,6 +55,7 @@ pub mod Demand2Bytes
 pub mod Demand2Fate
 pub mod Demand2Pieces
 pub mod Demand2Task
+pub mod Demand2Served
 pub mod Demand2Event
 pub mod Demand2Kept
 pub mod Demand2Walk
@@ -61,6 +63,7 @@ pub mod Demand2Ends
 pub mod Demand2Begun
 pub mod Demand2Asked
 pub mod Demand2
+pub mod Kept
 pub mod Owners
 pub mod Lost
 pub mod LostBytes

@@ -9,6 +9,8 @@ pub mod Others
 pub mod Alone
 pub mod Demand3
 pub mod Demand2
+pub mod Kept
 pub mod Figures
 pub mod Orders
+pub mod KeptRuns
 pub mod Run
