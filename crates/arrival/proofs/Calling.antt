@@ -1,5 +1,6 @@
 -- An answer or a flush result under a tag that names a live row within the depth: the call as a whole.
 use mathlib.Core.Path.{_≡_, refl, sym, ap, _∙_, subst}
+use mathlib.Core.Logic.{_≢_}
 use mathlib.Core.Bool.{true, false}
 use mathlib.Core.List.{List}
 use Prim.Native.Nat.{ℕ, _<_, _^_}
@@ -18,6 +19,7 @@ use Rattle.model.specs.declared.Awaits.{Awaits}
 use Rattle.model.specs.declared.Awaits.the-variants.{Nothing, Piece, Flush}
 use Rattle.model.specs.declared.Row.{Row}
 use Rattle.model.specs.declared.Call.{Call}
+use Rattle.model.specs.declared.Call.the-variants.{Take}
 use Rattle.model.specs.State.{Region, State, freed}
 use Rattle.model.specs.Opening.{Plan}
 use Rattle.model.specs.Memory.{Lent, lengthsOf, sameLengths, settingsIn, stateIn}
@@ -96,7 +98,7 @@ module _ (c : Counts) (rows : List Row) (store free ready owners pool : List ℕ
       not-away (r .reply) x (ap (λ (y : Touched). isAway (y .reply)) (back m) ∙ rejects (planWith g m) (row .awaits) e b piece) is
 
   module _ (same : sameLengths (lengthsOf l) store ≡ true) (below : rowOf t < settingsIn store .depth) (named : names row t ≡ true) (small : rangeEnd (row .awaits) < 2 ^ 64)
-      (call : Call) (input : Input) (is-input : (x : State) → called x call ≡ underTag x t input) (input-fits : InputFits input)
+      (call : Call) (other : call ≢ Take) (input : Input) (is-input : (x : State) → called x call ≡ underTag x t input) (input-fits : InputFits input)
       (g : LiveRegion) (g-is : Sound s → g ≡ liveOf (regionAt s (row .handle)))
       (f : Finished) (tells : Sound s → fateBy f (bytesAt s (row .buffer)) ≡ fateOf s row input) (piece : RejectsPiece f (row .awaits)) where
     module _ (i : Sound s) where
@@ -121,6 +123,7 @@ module _ (c : Counts) (rows : List Row) (store free ready owners pool : List ℕ
     calls r store′ free′ ready′ owners′ pool′ k = record {
       another-length = λ e. absurd (not-both same e);
       turned-away = λ x e. let u = unchanged g f r (k .touched-is) piece x e in (u .0, lent-is ∙ u .1);
+      none-ready = λ e is. absurd (other e);
       as-step = λ i. stepped call c l same i
           ∙ fate-is i
           ∙ carried c rows store free ready owners pool i same t row found below named small g (g-is i) f r store′ free′ ready′ owners′ pool′ k

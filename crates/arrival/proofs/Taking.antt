@@ -60,6 +60,7 @@ module _ (c : Counts) (l : Lent) (same : sameLengths (lengthsOf l) (l .store) �
   none-calls empty = record {
     another-length = λ e. absurd (not-both same e);
     turned-away = λ f e. (refl, refl);
+    none-ready = λ e is. (refl, refl);
     as-step = λ i. stepped i ∙ ap (λ (n : ℕ). taken s (readyIn o (o .depth) (getD (l .ready) 0 0) n (drop 1 (l .ready)))) empty;
     beyond = λ i. record { lengths = refl; rows = refl; store = refl; free = refl; ready = refl; owners = refl };
   }
@@ -131,6 +132,7 @@ module _ (c : Counts) (l : Lent) (same : sameLengths (lengthsOf l) (l .store) �
     taken-calls = record {
       another-length = λ e. absurd (not-both same e);
       turned-away = λ f e. absurd (not-both (ap isAway e) refl);
+      none-ready = λ e is. let z : _≡_ {A = ℕ} 0 1 = cc in absurd (omega arith);
       as-step = taken-step;
       beyond = taken-beyond;
     }

@@ -15,6 +15,7 @@ use Rattle.completion.specs.declared.Reply.{Reply}
 use Rattle.completion.specs.declared.Reply.the-variants.{Piece, No as turnedAway, Rejected, Done, Flush, Took, None, Ok, Writes, Mark}
 use Rattle.completion.proofs.Reply as Declared
 use Rattle.model.specs.declared.Call.{Call}
+use Rattle.model.specs.declared.Call.the-variants.{Take}
 use Rattle.model.specs.declared.Counts.{Counts}
 use Rattle.model.specs.declared.Row.{Row}
 use Rattle.model.specs.State.{freed}
@@ -25,7 +26,7 @@ use Rattle.optable.specs.Called.{lentOf, placeOf, CallsTo, TouchesTo}
 use Rattle.abi.specs.RowWords.{rowsIn}
 use Rattle.abi.proofs.Laws.{count}
 use Rattle.step.specs.Lists.{isAway}
-use Rattle.entry.specs.WordCalls.{countsIn, lentIn, Put, CallsInWords}
+use Rattle.entry.specs.WordCalls.{countsIn, countWords, lentIn, Put, CallsInWords}
 
 -- a call that is turned away, by its refusal
 pub refusal-of : {A : Type 0} (r : Reply) → isAway r ≡ true → ((f : Refusal) → r ≡ turnedAway f → A) → A
@@ -64,9 +65,18 @@ not-away (Writes b) one = refl
 not-away (Mark n) one = refl
 
 -- the counts are read back from their words
-pub counts-read : (c : Counts) → countsIn (c .live ∷ c .ready ∷ c .submissions ∷ []) ≡ c
+pub counts-read : (c : Counts) → countsIn (countWords c) ≡ c
 unfolding countsIn
 counts-read c = refl
+
+-- and three words are those of their counts
+pub words-read : (counts : List ℕ) → length counts ≡ 3 → countWords (countsIn counts) ≡ counts
+unfolding countsIn
+words-read [] e = absurd (omega (arith, e))
+words-read (a ∷ []) e = absurd (omega (arith, e))
+words-read (a ∷ b ∷ []) e = absurd (omega (arith, e))
+words-read (a ∷ b ∷ d ∷ []) e = refl
+words-read (a ∷ b ∷ d ∷ x ∷ xs) e = absurd (omega (arith, e))
 
 is-away : (f : Refusal) → isAway (turnedAway f) ≡ true
 unfolding isAway
@@ -101,15 +111,21 @@ module _ (call : Call) (counts rows store free ready owners pool : List ℕ) (t 
       record {
         calls = in-words counts (rowsIn rows) (sym c-is ∙ sym (same .0)) (sym (ap (λ (l : Lent). l .rows) (same .1)));
         turned-away = λ g e′. (refl, refl);
+        none-ready = λ e′ none. (refl, refl);
         others = λ i apart. refl;
         long = refl;
       })
 
-  carried-out : isAway (t .reply) ≡ false → (r : Reply) (counts′ rows′ : List ℕ) → Put t at c counts rows r counts′ rows′
+  -- what a taking that finds none leaves in the words of the counts and the rows
+  abbrev pub NoneReady : List ℕ → List ℕ → Type 0
+  NoneReady counts′ rows′ = call ≡ Take → t .reply ≡ None → (counts′ ≡ counts) × (rows′ ≡ rows)
+
+  carried-out : isAway (t .reply) ≡ false → (r : Reply) (counts′ rows′ : List ℕ) → Put t at c counts rows r counts′ rows′ → NoneReady counts′ rows′
       → CallsInWords call counts rows store free ready owners pool (t .reply) counts′ rows′ store′ free′ ready′ owners′ pool′
-  carried-out e r counts′ rows′ p = record {
-    calls = in-words counts′ (rowsIn rows′) (p .counted .counts-are e) (p .row-is e);
+  carried-out e r counts′ rows′ p none = record {
+    calls = in-words counts′ (rowsIn rows′) (ap countsIn (p .counted .counts-are e) ∙ counts-read next) (p .row-is e);
     turned-away = λ f is. absurd (not-both (ap isAway is ∙ is-away f) e);
+    none-ready = none;
     others = λ i apart. p .others i (subst (λ (k : ℕ). (i < 16 * k) ⊎ (16 * k + 16 ≤ i)) (sym place-is) apart);
     long = p .long;
   }
@@ -118,11 +134,11 @@ module _ (call : Call) (counts rows store free ready owners pool : List ℕ) (t 
       place-is = at-is ∙ ap (λ (d : Counts). placeOf call d free) c-is
 
   -- as the row and the counts are put
-  pub put-in-words : (r : Reply) (counts′ rows′ : List ℕ) → Put t at c counts rows r counts′ rows′ → CallsInWords call counts rows store free ready owners pool r counts′ rows′ store′ free′ ready′ owners′ pool′
-  put-in-words r counts′ rows′ p = subst (λ (x : Reply). CallsInWords call counts rows store free ready owners pool x counts′ rows′ store′ free′ ready′ owners′ pool′) (sym (p .counted .reply)) (by-away (isAway (t .reply)) refl)
+  pub put-in-words : (r : Reply) (counts′ rows′ : List ℕ) → Put t at c counts rows r counts′ rows′ → NoneReady counts′ rows′ → CallsInWords call counts rows store free ready owners pool r counts′ rows′ store′ free′ ready′ owners′ pool′
+  put-in-words r counts′ rows′ p none = subst (λ (x : Reply). CallsInWords call counts rows store free ready owners pool x counts′ rows′ store′ free′ ready′ owners′ pool′) (sym (p .counted .reply)) (by-away (isAway (t .reply)) refl)
     where
       by-away : (b : Bool) → isAway (t .reply) ≡ b → CallsInWords call counts rows store free ready owners pool (t .reply) counts′ rows′ store′ free′ ready′ owners′ pool′
       by-away true e =
           subst (λ (ws : List ℕ). CallsInWords call counts rows store free ready owners pool (t .reply) ws rows′ store′ free′ ready′ owners′ pool′) (sym (p .counted .turned-away e))
           (subst (λ (ws : List ℕ). CallsInWords call counts rows store free ready owners pool (t .reply) counts ws store′ free′ ready′ owners′ pool′) (sym (p .turned-away e)) (turned-back e))
-      by-away false e = carried-out e r counts′ rows′ p
+      by-away false e = carried-out e r counts′ rows′ p none

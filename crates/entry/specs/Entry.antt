@@ -3,7 +3,7 @@
 -- names nothing changes nothing, and gets a case of its own, behind 13.
 use mathlib.Core.Path.{_≡_}
 use mathlib.Core.Option.{Option, none, some}
-use mathlib.Core.List.{List, [], _∷_}
+use mathlib.Core.List.{List}
 use Prim.Native.Nat.{ℕ}
 use Rattle.layout.specs.Pick.{pick}
 use Rattle.completion.specs.declared.Refusal.the-variants as Refusal
@@ -12,6 +12,7 @@ use Rattle.completion.specs.declared.Reply.the-variants as Reply
 use Rattle.model.specs.declared.{Call.Call, Lookup.Lookup, Opening.Opening}
 use Rattle.opening.specs.declared.Opened.{Opened}
 use Rattle.opening.specs.declared.Opened.the-variants as Opened
+use Rattle.entry.specs.WordCalls.{countWords}
 use Rattle.entry.specs.WholeRows.{OpensWhole, CallsWhole, LooksWhole, fitsIn}
 use Rattle.abi.specs.ReplyWords.{replyWords, unknownWords}
 
@@ -59,7 +60,7 @@ openedReply (Opened.Table c) = Reply.Ok
 openedReply (Opened.No f) = Reply.No f
 
 unfoldable pub openedCounts : Opened → List ℕ → List ℕ
-openedCounts (Opened.Table c) counts = c .live ∷ c .ready ∷ c .submissions ∷ []
+openedCounts (Opened.Table c) counts = countWords c
 openedCounts (Opened.No f) counts = counts
 
 pub record OpensOut (o : Opening) (plan : List ℕ) (p p′ : Parts) (out : List ℕ) : Type 0 where

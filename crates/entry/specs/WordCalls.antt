@@ -4,12 +4,13 @@
 use mathlib.Core.Path.{_≡_}
 use mathlib.Core.Bool.{true, false}
 use mathlib.Core.Logic.{_⊎_}
-use mathlib.Core.List.{List}
+use mathlib.Core.List.{List, [], _∷_}
 use Prim.Native.Nat.{ℕ, _+_, _*_, _≤_, _<_}
 use lib.ListN.{length, getD, drop, set}
 use Rattle.completion.specs.declared.{Refusal.Refusal, Reply.Reply}
 use Rattle.completion.specs.declared.Reply.the-variants as Reply
 use Rattle.model.specs.declared.{Call.Call, Counts.Counts, Lookup.Lookup, Opening.Opening}
+use Rattle.model.specs.declared.Call.the-variants as Call
 use Rattle.model.specs.Memory.{Lent}
 use Rattle.optable.specs.Counted.{acceptedIf, releasedBy}
 use Rattle.optable.specs.declared.touched.Touched.{Touched}
@@ -23,6 +24,9 @@ use Rattle.abi.specs.RowWords.{rowsIn}
 -- "the counts of live rows, ready completions and submissions", in that order
 unfoldable pub countsIn : List ℕ → Counts
 countsIn w = record { live = getD w 0 0; ready = getD w 1 0; submissions = getD w 2 0 }
+
+abbrev pub countWords : Counts → List ℕ
+countWords c = c .live ∷ c .ready ∷ c .submissions ∷ []
 
 -- what a host lends, its rows in words
 abbrev pub lentIn : List ℕ → List ℕ → List ℕ → List ℕ → List ℕ → List ℕ → Lent
@@ -41,7 +45,7 @@ pub record OpensInWords (o : Opening) (plan rows store free ready owners pool : 
 pub record Counted (t : Touched) (c : Counts) (counts : List ℕ) (r : Reply) (counts′ : List ℕ) : Type 0 where
   pub reply : r ≡ t .reply
   pub turned-away : isAway (t .reply) ≡ true → counts′ ≡ counts
-  pub counts-are : isAway (t .reply) ≡ false → countsIn counts′ ≡ releasedBy (t .frees) (acceptedIf (t .accepts) c)
+  pub counts-are : isAway (t .reply) ≡ false → counts′ ≡ countWords (releasedBy (t .frees) (acceptedIf (t .accepts) c))
 
 -- likewise of the row that it touches: no other word of the rows is written
 pub record Put (t : Touched) (at : ℕ) (c : Counts) (counts rows : List ℕ) (r : Reply) (counts′ rows′ : List ℕ) : Type 0 where
@@ -57,6 +61,8 @@ pub record CallsInWords (call : Call) (counts rows store free ready owners pool 
       (countsIn counts′) (lentIn rows′ store′ free′ ready′ owners′ pool′)
   -- a call that is turned away changes nothing: no word of the counts or of the rows either
   pub turned-away : (f : Refusal) → r ≡ Reply.No f → (counts′ ≡ counts) × (rows′ ≡ rows)
+  -- "With none ready the reply is none and nothing changes.": no word of these either
+  pub none-ready : call ≡ Call.Take → r ≡ Reply.None → (counts′ ≡ counts) × (rows′ ≡ rows)
   -- no word but those of the row that the call touches is written
   pub others : (i : ℕ) → (i < 16 * placeOf call (countsIn counts) free) ⊎ (16 * placeOf call (countsIn counts) free + 16 ≤ i)
       → getD rows′ i 0 ≡ getD rows i 0

@@ -28,7 +28,7 @@ pub fn write(
     if !crate::wholerows::fits(rows, store, free, ready, owners, pool) {
         return Reply::No(Refusal::Unfit);
     }
-    let c = crate::words::counts_of(counts);
+    let c = crate::words::counts_of(*counts);
     let at = optable::touched::place(Call::Write(q), c, free) as usize;
     let row = abi::rows::row_at(rows, at);
     let t = queuecore::dispatch::write(q, row, c, rows.len() / 16, store, free, owners);
@@ -54,7 +54,7 @@ pub fn read_page(
     if !crate::wholerows::fits(rows, store, free, ready, owners, pool) {
         return Reply::No(Refusal::Unfit);
     }
-    let c = crate::words::counts_of(counts);
+    let c = crate::words::counts_of(*counts);
     let at = optable::touched::place(Call::ReadPage(q), c, free) as usize;
     let row = abi::rows::row_at(rows, at);
     let t = queuecore::dispatch::read_page(q, row, c, rows.len() / 16, store, free, owners);
@@ -81,7 +81,7 @@ pub fn arrive(
     if !crate::wholerows::fits(rows, store, free, ready, owners, pool) {
         return Reply::No(Refusal::Unfit);
     }
-    let c = crate::words::counts_of(counts);
+    let c = crate::words::counts_of(*counts);
     let at = optable::touched::place(arrival::call_of(qtag, what), c, free) as usize;
     let row = abi::rows::row_at(rows, at);
     let n = rows.len() / 16;
@@ -107,7 +107,7 @@ pub fn take(
     if !crate::wholerows::fits(rows, store, free, ready, owners, pool) {
         return Reply::No(Refusal::Unfit);
     }
-    let c = crate::words::counts_of(counts);
+    let c = crate::words::counts_of(*counts);
     let row = abi::rows::row_at(rows, 0);
     let t = arrival::take::take(row, c, store, ready, owners);
     crate::words::put_counted(t, c, counts)

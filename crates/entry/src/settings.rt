@@ -50,7 +50,7 @@ pub fn set(
     if !crate::wholerows::fits(rows, store, free, ready, owners, pool) {
         return Reply::No(Refusal::Unfit);
     }
-    let c = crate::words::counts_of(counts);
+    let c = crate::words::counts_of(*counts);
     let row = abi::rows::row_at(rows, 0);
     let t = mark(what, row, store);
     crate::words::put_touched(t, 0, c, counts, rows)

@@ -1,12 +1,12 @@
 // The calls that a host makes whose rows lie in words (store-io's submitter/mod.rs): what the crate submitter does over lent records, with the same
 // promises.
 ghost use mathlib.Core.Path.{_≡_};
-ghost use lib.ListN.{take};
+ghost use lib.ListN.{length, take};
 ghost use Rattle.optable.specs.Counted.{acceptedIf, releasedBy};
 ghost use Rattle.optable.specs.Looked.{lookedIn};
 ghost use Rattle.abi.specs.RowWords.{rowsIn};
 ghost use Rattle.step.specs.Lists.{isAway};
-ghost use Rattle.entry.specs.WordCalls.{countsIn, OpensInWords, Counted, Put, LooksInWords};
+ghost use Rattle.entry.specs.WordCalls.{countsIn, countWords, OpensInWords, Counted, Put, LooksInWords};
 use completion::Reply;
 use model::Counts;
 use model::Lookup;
@@ -45,8 +45,9 @@ pub fn open_words(
 }
 
 // The counts in three words.
-pub fn counts_of(counts: &[u64; 3]) -> Counts
-    ensures { λ r. ⌜ r ≡ countsIn (now (counts .entry)) ⌝ }
+pub fn counts_of(counts: [u64; 3]) -> Counts
+    ensures { λ r. ⌜ r ≡ countsIn counts ⌝ }
+    ensures three { λ _. ⌜ length counts ≡ 3 ⌝ }
 {
     Counts {
         live: counts[0],
@@ -57,7 +58,7 @@ pub fn counts_of(counts: &[u64; 3]) -> Counts
 
 // The counts are put into their words, as a call leaves them.
 fn put_counts(t: Touched, c: Counts, counts: &mut [u64; 3])
-    ensures { λ _. ⌜ countsIn (now (counts .exit)) ≡ releasedBy (t .frees) (acceptedIf (t .accepts) c) ⌝ }
+    ensures { λ _. ⌜ now (counts .exit) ≡ countWords (releasedBy (t .frees) (acceptedIf (t .accepts) c)) ⌝ }
 {
     let frees = t.frees;
     let next = optable::released(optable::accepted(c, t.accepts), frees);
@@ -137,7 +138,7 @@ pub fn lookup_words(
         (now (rows .entry)) (now (store .entry)) (now (free .entry)) (now (ready .entry)) (now (owners .entry)) (now (pool .entry)) r ⌝ }
 {
     let f = memory::lengths::fitted(rows.len() / 16, store, free, ready, owners, pool);
-    let c = counts_of(counts);
+    let c = counts_of(*counts);
     let l = look(rows, f.depth, c.submissions);
     optable::lookup::answer(x, c, f.fits, l)
 }

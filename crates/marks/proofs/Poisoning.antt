@@ -3,6 +3,7 @@ use mathlib.Core.Path.{_≡_, refl, sym, ap, _∙_, subst}
 use mathlib.Core.Bool.{true, false}
 use mathlib.Core.List.{List}
 use Prim.Native.Nat.{ℕ, _*_}
+use native.Mathlib.Omega.{arith}
 use lib.ListN.{length, drop}
 use lib.Seq.{drop-drop}
 use Rattle.layout.proofs.Tests.{not-both}
@@ -49,6 +50,7 @@ module _ (cause : FirstCause) (fits : ErrorFits (cause .raw)) (c : Counts) (l : 
   poisoned-calls = record {
     another-length = λ e. absurd (not-both same e);
     turned-away = λ f e. not-away Ok f refl e;
+    none-ready = λ e is. let z : _≡_ {A = ℕ} 0 1 = cc in absurd (omega arith);
     as-step = poisoned-step;
     beyond = λ i. poisoned-beyond;
   }

@@ -44,6 +44,7 @@ module _ (call : Call) (h : ℕ) (f : Region → Region) (is : (s : State) → c
   unknown-calls past = record {
     another-length = λ e. absurd (not-both same e);
     turned-away = λ g e. (refl, refl);
+    none-ready = λ e is. (refl, refl);
     as-step = λ i.
         stepped call c l same i ∙ is s
         ∙ ap (λ (b : Bool). pick b (withRegions s (set (s .regions) h (f (regionAt s h))), Ok) (s, turnedAway (ForeignPosition bare))) (le-ltb h (settingsIn (l .store) .regions) past);
@@ -112,6 +113,7 @@ module _ (call : Call) (h : ℕ) (f : Region → Region) (is : (s : State) → c
     known-calls = record {
       another-length = λ e. absurd (not-both same e);
       turned-away = λ g e. not-away Ok g refl e;
+      none-ready = λ e is. let z : _≡_ {A = ℕ} 0 1 = cc in absurd (omega arith);
       as-step = known-step;
       beyond = λ i. subst (λ (w : List ℕ). Beyond (settingsIn (l .store)) l (withStore l w)) (sym (marked-in h mark word (l .store) (most i) below)) (known-beyond i);
     }

@@ -49,10 +49,13 @@ pub record Beyond (o : Opening) (l l′ : Lent) : Type 0 where
   pub owners : drop (o .buffers) (l′ .owners) ≡ drop (o .buffers) (l .owners)
 
 pub record CallsTo (call : Call) (c : Counts) (l : Lent) (r : Reply) (c′ : Counts) (l′ : Lent) : Type 0 where
-  -- "A later call with another length of row memory or pool gets 13 first."
+  -- "A later call with another length of row memory or pool gets 13 first.": another than the store's words 13 to 18 say, where the opening put its
+  -- lengths. A host that lends another part of memory as the store has changed the row memory, of which nothing is promised.
   pub another-length : sameLengths (lengthsOf l) (l .store) ≡ false → r ≡ Reply.No Refusal.Unfit
   -- a call that is turned away changes nothing: no count, no row, no word, no byte
   pub turned-away : (f : Refusal) → r ≡ Reply.No f → (c′ ≡ c) × (l′ ≡ l)
+  -- "With none ready the reply is none and nothing changes.": no count, no row, no word, no byte
+  pub none-ready : call ≡ Call.Take → r ≡ Reply.None → (c′ ≡ c) × (l′ ≡ l)
   -- of every table that calls have left: the reply and the next state are the step's
   pub as-step : Sound (stateIn c l) → step (stateIn c l) (lengthsOf l) call ≡ (stateIn c′ l′, r)
   pub beyond : Sound (stateIn c l) → Beyond (settingsIn (l .store)) l l′

@@ -38,6 +38,7 @@ module _ (call : Call) (row : Row) (c : Counts) (rows : List Row) (store free re
   nothing-changed = record {
     another-length = λ _. refl;
     turned-away = λ f x. (refl, refl);
+    none-ready = λ e x. (refl, refl);
     as-step = another-length-step;
     beyond = λ i. record { lengths = refl; rows = refl; store = refl; free = refl; ready = refl; owners = refl };
   }

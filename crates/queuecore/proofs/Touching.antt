@@ -119,6 +119,12 @@ module _ (c : Counts) (rows : List Row) (store free ready owners pool : List ℕ
   turned-away (refuses g) row found f e = (refused-counts g row, refused-lent g row found)
   turned-away (Accept r k p) row found f e = absurd (subst Away (sym e) tt)
 
+  -- a submission is replied a piece or a refusal
+  not-none : (v : Verdict) (row : Row) → t v row .reply ≡ None → ⊥
+  unfolding issued awayWith
+  not-none (refuses f) row e = let z : _≡_ {A = ℕ} 0 1 = cc in omega arith
+  not-none (Accept r k p) row e = let z : _≡_ {A = ℕ} 0 1 = cc in omega arith
+
   -- ---- an accepted one, of a sound table
   module _ (i : Sound s) (r : ℕ) (k : Kind) (p : FoundPiece) (w : Went s q (Accept r k p)) (row : Row) (found : row ≡ getD rows at (freed 0)) (top-at : at ≡ topOf (s .free)) where
     row-at : r ≡ at
@@ -214,6 +220,7 @@ module _ (c : Counts) (rows : List Row) (store free ready owners pool : List ℕ
     calls = record {
       another-length = λ e. absurd (not-both same e);
       turned-away = turned-away v row found;
+      none-ready = λ e is. absurd (not-none v row is);
       as-step = as-step;
       beyond = λ i. went-beyond i same row found v (goes s v (d rows ready pool same i));
     }

@@ -3,7 +3,7 @@ use mathlib.Core.Path.{ap, _∙_}
 use Rattle.model.specs.declared.Call.{Call}
 use Rattle.optable.specs.Called.{placeOf}
 use borrow.Author.Tests.{not-true, not-false}
-use Rattle.entry.proofs.Each.{unlike, armed}
+use Rattle.entry.proofs.Each.{unlike, armed, not-arrived}
 use borrow.Author.Needs.{needs}
 use Rattle.entry.proofs.calls.arrive.Statement.{statement}
 use Rattle.entry.proofs.calls.arrive.Tie as tie
@@ -22,7 +22,7 @@ returns-2 c =
     let left = counted .before .before in
     let a = left .before .before .before .before .before .before .before .before .before .before .before .before .before .before .args in
     let at-is = placed .place .ensures ∙ ap (λ (x : Call). placeOf x (counted .counts-of .result) (a .free .now)) (said .call-of .ensures) in
-    armed (left .before .fits2 .ensures) (not-false _ (left .if1 .left)) (counted .counts-of .ensures) at-is (found .row-at .ensures) (did .arrive .ensures) (put .put-touched .ensures)
+    armed (left .before .fits2 .ensures) (not-false _ (left .if1 .left)) (counted .counts-of .ensures .0) at-is (found .row-at .ensures) (not-arrived (a .qtag) (a .what)) (did .arrive .ensures) (put .put-touched .ensures)
 
 pub arrive-spec : {M : Type 1} → statement M
 arrive-spec =

@@ -22,7 +22,7 @@ returns-2 c =
     let left = counted .before .before in
     let a = left .before .before .before .before .before .before .before .before .before .before .before .before .before .before .args in
     carried-without Take (a .counts .now) (a .rows .now) (a .store .now) (a .free .now) (a .ready .now) (a .owners .now) (a .pool .now) (did .take .result) _ _ _ _ _ (left .before .fits2 .result) (left .before .fits2 .ensures) (not-false _ (left .if1 .left))
-    (counted .counts-of .result) (counted .counts-of .ensures) 0 refl (found .row-at .result) (found .row-at .ensures) (did .take .ensures .0 (length (a .rows .now) / 16) (a .free .now) (a .pool .now)) _ _ (did .take .ensures .1) (c .put-counted .ensures)
+    (counted .counts-of .result) (counted .counts-of .ensures .0) 0 refl (found .row-at .result) (found .row-at .ensures) (did .take .ensures .0 (length (a .rows .now) / 16) (a .free .now) (a .pool .now)) _ _ (counted .counts-of .ensures .1) (did .take .ensures .1) (c .put-counted .ensures)
 
 pub take-spec : {M : Type 1} → statement M
 take-spec =

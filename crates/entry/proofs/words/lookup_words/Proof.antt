@@ -15,10 +15,10 @@ use Rattle.entry.proofs.words.lookup_words.Tie as tie
 
 returns : tie.Need-returns
 returns c =
-    let a = c .before .before .before .before .before .before .before .before .before .before .args in
+    let a = c .before .before .before .before .before .before .before .before .before .before .before .args in
     let counts = c .before .before .counts-of in
-    let fit = c .before .before .before .fitted in
-    subst (λ (d : Counts). LooksTo (a .x) d (lentIn (a .rows .now) (a .store .now) (a .free .now) (a .ready .now) (a .owners .now) (a .pool .now)) (c .answer .result)) (counts .ensures)
+    let fit = c .before .before .before .before .fitted in
+    subst (λ (d : Counts). LooksTo (a .x) d (lentIn (a .rows .now) (a .store .now) (a .free .now) (a .ready .now) (a .owners .now) (a .pool .now)) (c .answer .result)) (counts .ensures .0)
     (looks-as (a .x) (counts .result) (rowsIn (a .rows .now)) (a .store .now) (a .free .now) (a .ready .now) (a .owners .now) (a .pool .now) (length (a .rows .now) / 16) (count (a .rows .now))
     (fit .result .fits) (fit .result .depth) (c .before .look .result) (c .answer .result)
     (ap (λ (f : Fit). f .fits) (fit .ensures)) (ap (λ (f : Fit). f .depth) (fit .ensures)) (c .before .look .ensures) (c .answer .ensures))
