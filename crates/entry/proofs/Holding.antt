@@ -5,9 +5,10 @@ use mathlib.Core.Logic.{_≢_, _⊎_, inl, inr}
 use mathlib.Core.Bool.{Bool, true, false, _&&_}
 use mathlib.Core.Option.{Option, none, some}
 use mathlib.Core.List.{List, [], _∷_, _++_, append-assoc, append-nil}
-use Prim.Native.Nat.{ℕ, _+_, _*_, _/_, _%_, _≤_, _<_}
+use Prim.Native.Nat.{ℕ, zero, suc, _+_, _*_, _/_, _%_, _≤_, _<_}
 use native.Mathlib.Omega.{arith}
-use lib.ListN.{length, getD, drop}
+use lib.ListN.{length, getD, take, drop}
+use lib.Seq.{drop-length}
 use lib.Dec.{eqb, leb}
 use borrow.Author.Tests.{leb-true, eqb-true, eq-eqb}
 use Rattle.layout.specs.Pick.{pick}
@@ -19,6 +20,7 @@ use Rattle.model.specs.declared.{Opening.Opening, Counts.Counts, Lengths.Length
 use Rattle.model.specs.State.{State, fresh, freed, liveRows}
 use Rattle.model.specs.Opening.{opens, HEAD}
 use Rattle.model.specs.Memory.{Lent, lengthsOf, lengthsIn, sameLengths, stateIn, lentAfter}
+use Rattle.posix.specs.Posix.{Card}
 use Rattle.step.specs.Step.{queueTag, rowAt, bytesAt, isLive, eqLengths}
 use Rattle.step.specs.Run.{Made, Made.calls, Made.looks, Event, leave, next, run, Start, openedBy, after, replyTo}
 use Rattle.step.specs.Lists.{times, brought, isBrought, Completed, withBytes, gets, added, addedBy, takings, HostMay, tagAt}
@@ -30,19 +32,20 @@ use Rattle.step.proofs.ProjectionReached.{run-append}
 use Rattle.step.proofs.Demand3.{demand3}
 use Rattle.optable.specs.Called.{lentOf, CallsTo, LooksTo}
 use Rattle.optable.specs.Held.{lentWith, Holds, MakesTo, HoldsNext, Begins, startAt, event}
-use Rattle.optable.proofs.Held.{held-laws, holds-fits, words-say, equal-lengths, after-again, append-again}
+use Rattle.optable.proofs.Held.{held-laws, holds-fits, words-say, equal-lengths}
 use Rattle.opening.specs.declared.Opened.{Opened}
 use Rattle.opening.specs.declared.Opened.the-variants as Opened
 use Rattle.opening.specs.Opened.{OpensTo}
-use Rattle.opening.proofs.Admitted.{admitted, counts-fresh, left-is}
+use Rattle.opening.proofs.Admitted.{admitted, counts-fresh, left-is, unopened}
 use Rattle.abi.specs.RowWords.{rowsIn}
 use Rattle.abi.specs.ReplyWords.{filled, valuesWords, replyWords, unknownWords}
 use Rattle.abi.proofs.Laws.{count}
 use Rattle.entry.specs.WordCalls.{countsIn, lentIn, OpensInWords}
 use Rattle.entry.specs.WholeRows.{Whole, Cut, OpensWhole, CallsWhole, LooksWhole, fitsIn}
 use Rattle.entry.specs.Entry.{Parts, partsOf, CallsOut, AnswersOut, namelessWords, LooksOut, openedReply, openedCounts, OpensOut}
-use Rattle.entry.specs.Holding.{lentOfParts, tableIn, HoldsIn, partsWith, Export, Export.makes, Export.nameless, Returns, wordLengths, lengthsLent, LendsIn, Turn, Takes, Turns, heldAfter}
-use Rattle.entry.specs.Holding.{eventsFor, eventsOf, historyOf, outFor, OutsAre, HeldFrom, HostHolds, bringsTo, addedTo, getsIn, addedIn, OneEachIn, NoMoreIn, AgreedIn, Demand3InWords}
+use Rattle.entry.specs.Holding.{lentOfParts, tableIn, HoldsIn, partsWith, Export, Export.makes, Export.nameless, Export.reopens, exportOf, Returns, AskedReturns, wordLengths, lengthsLent, LendsWords}
+use Rattle.entry.specs.Holding.{WordTurn, WordTurnFrom, WordTurnsFrom, partsAfter, eventsFor, eventsOf, historyOf, outFor, nextFor, WordsAsSteps, WordsHeldFrom, HostHoldsWords}
+use Rattle.entry.specs.Holding.{bringsTo, addedTo, getsInWords, addedInWords, OneEachInWords, NoMoreInWords, AgreedInWords, Demand3InWords}
 
 -- ---- lengths
 
@@ -83,16 +86,35 @@ run-after x h l = run-append (openedBy x) h l
 
 -- ---- one call
 
-unfoldable pub Exactly : Export → State → State → Type 0
-Exactly (makes m) s s′ = s ≡ s′
-Exactly nameless s s′ = Unit {0}
+-- the first word of a reply tells its case
+refused-says : (f : Refusal) → replyWords Reply.Ok ≡ replyWords (Reply.No f) → ⊥
+unfolding replyWords filled
+refused-says f e = let z : _≡_ {A = ℕ} 8 2 = ap (λ (ws : List ℕ). getD ws 0 0) e in omega (arith, z)
 
-pub record Done (x : Start) (h : List Event) (u : Turn) : Type 0 where
+pub record Done (x : Start) (h : List Event) (u : WordTurn) : Type 0 where
   pub holds : HoldsIn x (h ++ eventsOf u) (u .held)
-  pub exactly : Exactly (u .export) (tableIn (u .held)) (after x (h ++ eventsOf u))
+  pub exactly : tableIn (u .held) ≡ nextFor (after x h) (u .export) (u .leaves) (lengthsLent (u .lent))
   pub out-is : u .out ≡ outFor (after x h) (u .export) (u .leaves) (lengthsLent (u .lent))
 
-module _ (x : Start) (h : List Event) (p : Parts) (z : HoldsIn x h p) (u : Turn) (k : Takes p u) where
+-- what an opening that is refused leaves: all that it was lent
+module _ (o : Opening) (plan : List ℕ) (lent left : Parts) where
+  refused-left : (r : Opened) → OpensWhole o plan (lent .rows) (lent .store) (lent .free) (lent .ready) (lent .owners) (lent .pool) r (left .rows) (left .store) (left .free) (left .ready) (left .owners)
+      → left .counts ≡ openedCounts r (lent .counts) → left .pool ≡ lent .pool → replyWords (Reply.No Refusal.Unfit) ≡ replyWords (openedReply r) → left ≡ lent
+  unfolding openedReply openedCounts
+  refused-left (Opened.Table c) w counts pool e = absurd (refused-says Refusal.Unfit (sym e))
+  refused-left (Opened.No f) w counts pool e = by-case (true-or-false (eqb (length (lent .rows) % 16) 0))
+    where
+      by-case : (eqb (length (lent .rows) % 16) 0 ≡ true) ⊎ (eqb (length (lent .rows) % 16) 0 ≡ false) → left ≡ lent
+      by-case (inl is) =
+          let c = w .whole (eqb-true (length (lent .rows) % 16) 0 is) in
+          let rows = c .turned-away f refl in
+          let same = unopened o plan (lentOfParts lent) f (rowsIn (left .rows)) (left .store) (left .free) (left .ready) (left .owners) (c .opens) in
+          λ j. record { counts = counts j; rows = rows j; store = (c .opens .store-is ∙ ap (λ (y : Lent). y .store) same) j; free = (c .opens .free-is ∙ ap (λ (y : Lent). y .free) same) j; ready = (c .opens .ready-is ∙ ap (λ (y : Lent). y .ready) same) j; owners = (c .opens .owners-are ∙ ap (λ (y : Lent). y .owners) same) j; pool = pool j }
+      by-case (inr is) =
+          let c = w .cut (λ yes. not-both (eq-eqb (length (lent .rows) % 16) 0 yes) is) in
+          λ j. record { counts = counts j; rows = c .1 j; store = c .2 j; free = c .3 j; ready = c .4 j; owners = c .5 j; pool = pool j }
+
+module _ (x : Start) (h : List Event) (p : Parts) (z : HoldsIn x h p) (u : WordTurn) (k : WordTurnFrom p u) where
   abbrev p₁ : Parts
   p₁ = partsWith p (u .leaves)
 
@@ -113,7 +135,7 @@ module _ (x : Start) (h : List Event) (p : Parts) (z : HoldsIn x h p) (u : Turn)
 
   -- of one event, what held-laws say of it
   event-done : (m : Made) (ls : Lengths) (r : Reply) (q : Parts) → Whole (q .rows) → HoldsNext x h (event (u .leaves) ls m) r (countsIn (q .counts)) (lentOfParts q)
-      → (HoldsIn x (h ++ (event (u .leaves) ls m ∷ [])) q) × (tableIn q ≡ after x (h ++ (event (u .leaves) ls m ∷ []))) × (replyWords r ≡ replyWords (replyTo (after x h) (event (u .leaves) ls m)))
+      → (HoldsIn x (h ++ (event (u .leaves) ls m ∷ [])) q) × (tableIn q ≡ next (after x h) (event (u .leaves) ls m)) × (replyWords r ≡ replyWords (replyTo (after x h) (event (u .leaves) ls m)))
   unfolding tableIn
   event-done m ls r q w n = (record { whole = w; holds = n .holds }, n .exactly, ap replyWords (n .reply))
 
@@ -132,10 +154,16 @@ module _ (x : Start) (h : List Event) (p : Parts) (z : HoldsIn x h p) (u : Turn)
     event-own : (m : Made) → event (u .leaves) (lengthsOf (lentOfParts p₁)) m ≡ event (u .leaves) (lengthsLent p₁) m
     event-own m = ap (λ (ls : Lengths). event (u .leaves) ls m) (sym (whole-lengths p₁ (written .whole)))
 
+    -- nothing was asked of the table: it is as the host left it
+    stays : q ≡ p₁ → (HoldsIn x (h ++ []) q) × (tableIn q ≡ leave (after x h) (u .leaves))
+    unfolding tableIn
+    stays e = (subst (HoldsIn x (h ++ [])) (sym e) (subst (λ (g : List Event). HoldsIn x g p₁) (sym (append-nil h)) written), ap tableIn e ∙ written .holds .table)
+
     own : (e : Export) → Returns e p₁ q out
-        → (HoldsIn x (h ++ eventsFor e (u .leaves) (lengthsLent p₁)) q) × (Exactly e (tableIn q) (after x (h ++ eventsFor e (u .leaves) (lengthsLent p₁)))) × (out ≡ outFor (after x h) e (u .leaves) (lengthsLent p₁))
-    unfolding Returns AnswersOut eventsFor outFor Exactly MakesTo
-    own nameless w = (subst (HoldsIn x (h ++ [])) (sym (w .0)) (subst (λ (g : List Event). HoldsIn x g p₁) (sym (append-nil h)) written), tt, nameless-out (w .1))
+        → (HoldsIn x (h ++ eventsFor e (u .leaves) (lengthsLent p₁)) q) × (tableIn q ≡ nextFor (after x h) e (u .leaves) (lengthsLent p₁)) × (out ≡ outFor (after x h) e (u .leaves) (lengthsLent p₁))
+    unfolding Returns AnswersOut eventsFor outFor nextFor MakesTo
+    own nameless w = let d = stays (w .0) in (d .0, d .1, nameless-out (w .1))
+    own (reopens o plan) w = let d = stays (refused-left o plan p₁ q (w .0 .opened) (w .0 .opens) (w .0 .counts-are) (w .0 .pool-is) (sym (w .1) ∙ w .0 .out-is)) in (d .0, d .1, w .1)
     own (makes (calls call)) w =
         let c = w .calls .whole (written .whole) in
         let n = held-laws .makes x h (countsIn (p₁ .counts)) (lentOfParts p₁) (calls call) (w .reply) (countsIn (q .counts)) (lentOfParts q) (written .holds) (c .calls) in
@@ -235,24 +263,27 @@ module _ (x : Start) (h : List Event) (p : Parts) (z : HoldsIn x h p) (u : Turn)
         e ∙ ap (λ (b : Bool). pick b unknownWords (replyWords (Reply.No Refusal.Unfit))) (unfit ∙ sym (ap (eqLengths (lengthsLent lent)) fixed-lengths ∙ unlike))
 
     -- what is held stays, and the history has the event
-    kept : (m : Made) → u .left ≡ lent → u .out ≡ replyWords (Reply.No Refusal.Unfit)
-        → (HoldsIn x (h ++ (event (u .leaves) (lengthsLent lent) m ∷ [])) p₁) × (tableIn p₁ ≡ after x (h ++ (event (u .leaves) (lengthsLent lent) m ∷ []))) × (u .out ≡ replyWords (replyTo (after x h) (event (u .leaves) (lengthsLent lent) m)))
-    kept m left e =
+    kept : (m : Made) → u .out ≡ replyWords (Reply.No Refusal.Unfit)
+        → (HoldsIn x (h ++ (event (u .leaves) (lengthsLent lent) m ∷ [])) p₁) × (tableIn p₁ ≡ next (after x h) (event (u .leaves) (lengthsLent lent) m)) × (u .out ≡ replyWords (replyTo (after x h) (event (u .leaves) (lengthsLent lent) m)))
+    kept m e =
         let n = held-laws .another-length x h (countsIn (p₁ .counts)) (lentOfParts p₁) m (lengthsLent lent) (written .holds) unlike in
         let d = event-done m (lengthsLent lent) (Reply.No Refusal.Unfit) p₁ (written .whole) n in
         (d .0, d .1, e ∙ d .2)
 
     others-lent : (y : Export) → Returns y lent (u .left) (u .out)
-        → (u .left ≡ lent) × (HoldsIn x (h ++ eventsFor y (u .leaves) (lengthsLent lent)) p₁) × (Exactly y (tableIn p₁) (after x (h ++ eventsFor y (u .leaves) (lengthsLent lent)))) × (u .out ≡ outFor (after x h) y (u .leaves) (lengthsLent lent))
-    unfolding Returns AnswersOut eventsFor outFor Exactly
+        → (u .left ≡ lent) × (HoldsIn x (h ++ eventsFor y (u .leaves) (lengthsLent lent)) p₁) × (tableIn p₁ ≡ nextFor (after x h) y (u .leaves) (lengthsLent lent)) × (u .out ≡ outFor (after x h) y (u .leaves) (lengthsLent lent))
+    unfolding Returns AnswersOut eventsFor outFor nextFor
     others-lent (makes (calls call)) w =
         let t = turned call (u .left) (w .reply) (w .calls) in
-        let d = kept (calls call) (t .1) (w .out-is ∙ ap replyWords (t .0)) in
+        let d = kept (calls call) (w .out-is ∙ ap replyWords (t .0)) in
         (t .1, d .0, d .1, d .2)
     others-lent (makes (looks y)) w =
-        let d = kept (looks y) (w .1) (w .0 .out-is ∙ ap replyWords (looked y (w .0 .reply) (w .0 .looks))) in
+        let d = kept (looks y) (w .0 .out-is ∙ ap replyWords (looked y (w .0 .reply) (w .0 .looks))) in
         (w .1, d .0, d .1, d .2)
-    others-lent nameless w = (w .0, subst (λ (g : List Event). HoldsIn x g p₁) (sym (append-nil h)) written, tt, nameless-unfit (w .1))
+    others-lent nameless w = let d = stays p₁ (u .out) refl in (w .0, d .0, d .1, nameless-unfit (w .1))
+    others-lent (reopens o plan) w =
+        let d = stays p₁ (u .out) refl in
+        (refused-left o plan lent (u .left) (w .0 .opened) (w .0 .opens) (w .0 .counts-are) (w .0 .pool-is) (sym (w .1) ∙ w .0 .out-is), d .0, d .1, w .1)
 
     pub other-done : Done x h u
     other-done =
@@ -269,21 +300,42 @@ module _ (x : Start) (h : List Event) (p : Parts) (z : HoldsIn x h p) (u : Turn)
 
 -- ---- lists
 
-pub turns-done : (x : Start) (us : List Turn) (h : List Event) (p : Parts) → HoldsIn x h p → Turns p us → HoldsIn x (h ++ historyOf us) (heldAfter p us) × OutsAre (after x h) us
-unfolding Turns heldAfter historyOf OutsAre
+-- what the host has written since the last call is not looked at
+out-left : (s : State) (pool : List ℕ) (y : Export) (leaves : List ℕ) (ls : Lengths) → outFor (leave s pool) y leaves ls ≡ outFor s y leaves ls
+unfolding outFor replyTo leave
+out-left s pool (makes m) leaves ls = refl
+out-left s pool nameless leaves ls = refl
+out-left s pool (reopens o plan) leaves ls = refl
+
+next-left : (s : State) (pool : List ℕ) (y : Export) (leaves : List ℕ) (ls : Lengths) → nextFor (leave s pool) y leaves ls ≡ nextFor s y leaves ls
+unfolding nextFor next leave
+next-left s pool (makes m) leaves ls = refl
+next-left s pool nameless leaves ls = refl
+next-left s pool (reopens o plan) leaves ls = refl
+
+module _ (x : Start) (h : List Event) (p : Parts) (z : HoldsIn x h p) where
+  held-table : tableIn p ≡ leave (after x h) (p .pool)
+  unfolding tableIn
+  held-table = z .holds .table
+
+  out-held : (y : Export) (leaves : List ℕ) (ls : Lengths) → outFor (after x h) y leaves ls ≡ outFor (tableIn p) y leaves ls
+  out-held y leaves ls = sym (ap (λ (s : State). outFor s y leaves ls) held-table ∙ out-left (after x h) (p .pool) y leaves ls)
+
+  next-held : (y : Export) (leaves : List ℕ) (ls : Lengths) → nextFor (after x h) y leaves ls ≡ nextFor (tableIn p) y leaves ls
+  next-held y leaves ls = sym (ap (λ (s : State). nextFor s y leaves ls) held-table ∙ next-left (after x h) (p .pool) y leaves ls)
+
+pub turns-done : (x : Start) (us : List WordTurn) (h : List Event) (p : Parts) → HoldsIn x h p → WordTurnsFrom p us → HoldsIn x (h ++ historyOf us) (partsAfter p us) × WordsAsSteps (tableIn p) us
+unfolding WordTurnsFrom partsAfter historyOf WordsAsSteps
 turns-done x [] h p z k = (subst (λ (g : List Event). HoldsIn x g p) (sym (append-nil h)) z, tt)
 turns-done x (u ∷ us) h p z k =
     let one = turn-done x h p z u (k .0) in
-    let more = turns-done x us (h ++ eventsOf u) (u .held) (one .holds) (k .1) in (
-      subst (λ (g : List Event). HoldsIn x g (heldAfter (u .held) us)) (append-assoc h (eventsOf u) (historyOf us)) (more .0),
-      (one .out-is, subst (λ (s : State). OutsAre s us) (run-after x h (eventsOf u)) (more .1)),
+    let more = turns-done x us (h ++ eventsOf u) (u .held) (one .holds) (k .1) in
+    let next : tableIn (u .held) ≡ nextFor (tableIn p) (u .export) (u .leaves) (lengthsLent (u .lent)) = one .exactly ∙ next-held x h p z (u .export) (u .leaves) (lengthsLent (u .lent)) in (
+      subst (λ (g : List Event). HoldsIn x g (partsAfter (u .held) us)) (append-assoc h (eventsOf u) (historyOf us)) (more .0),
+      (one .out-is ∙ out-held x h p z (u .export) (u .leaves) (lengthsLent (u .lent)), next, subst (λ (s : State). WordsAsSteps s us) next (more .1)),
     )
 
 -- ---- an opening
-
-refused-says : (f : Refusal) → replyWords Reply.Ok ≡ replyWords (Reply.No f) → ⊥
-unfolding replyWords filled
-refused-says f e = let z : _≡_ {A = ℕ} 8 2 = ap (λ (ws : List ℕ). getD ws 0 0) e in omega (arith, z)
 
 table-no : (c : Counts) (f : Refusal) → Opened.Table c ≡ Opened.No f → ⊥
 table-no c f e = let z : _≡_ {A = ℕ} 0 1 = cc in omega arith
@@ -293,6 +345,7 @@ record Opens (o : Opening) (plan : List ℕ) (p p₀ : Parts) : Type 0 where
   start : Start
   begins : Begins o plan (lengthsLent p) (p .pool) start
   holds : HoldsIn start [] p₀
+  opened : tableIn p₀ ≡ openedBy start
 
 module _ (o : Opening) (plan : List ℕ) (p p₀ : Parts) where
   module _ (c : Counts) (whole : Whole (p .rows)) (w : OpensInWords o plan (p .rows) (p .store) (p .free) (p .ready) (p .owners) (p .pool) (Opened.Table c) (p₀ .rows) (p₀ .store) (p₀ .free) (p₀ .ready) (p₀ .owners)) (counts : p₀ .counts ≡ c .live ∷ c .ready ∷ c .submissions ∷ []) (pool : p₀ .pool ≡ p .pool) where
@@ -318,7 +371,9 @@ module _ (o : Opening) (plan : List ℕ) (p p₀ : Parts) where
     counts-are = ap countsIn counts ∙ counts-fresh o plan l c (rowsIn (p₀ .rows)) (p₀ .store) (p₀ .free) (p₀ .ready) (p₀ .owners) (w .opens)
 
     opened-whole : Opens o plan p p₀
+    unfolding tableIn
     opened-whole = record {
+      opened = (λ j. stateIn (counts-are j) (lent-is j)) ∙ held-laws .opened o plan l ok long;
       start = x;
       begins = record { opening-is = refl; plan-is = refl; lengths-are = sym (whole-lengths p whole); pool-is = refl };
       holds = record {
@@ -337,41 +392,44 @@ module _ (o : Opening) (plan : List ℕ) (p p₀ : Parts) where
       by-case (inr e) = absurd (table-no c Refusal.Unfit (w .cut (λ is. not-both (eq-eqb (length (p .rows) % 16) 0 is) e) .0))
       by-case (inl e) = let whole = eqb-true (length (p .rows) % 16) 0 e in opened-whole c whole (w .whole whole) counts pool
 
-  held-from : (out : List ℕ) → OpensOut o plan p p₀ out → out ≡ replyWords Reply.Ok → (us : List Turn) → Turns p₀ us → HeldFrom o plan p p₀ us
-  unfolding after run
+  held-from : (out : List ℕ) → OpensOut o plan p p₀ out → out ≡ replyWords Reply.Ok → (us : List WordTurn) → WordTurnsFrom p₀ us → WordsHeldFrom o plan p p₀ us
   held-from out w e us k =
       let z = opened-so (w .opened) (w .opens) (w .counts-are) (w .pool-is) (sym e ∙ w .out-is) in
       let all = turns-done (z .start) us [] p₀ (z .holds) k in
-      record { start = z .start; begins = z .begins; holds = all .0; outs-are = all .1 }
+      record { start = z .start; begins = z .begins; opened = z .opened; as-steps = subst (λ (s : State). WordsAsSteps s us) (z .opened) (all .1); holds = all .0 }
 
-pub host-holds : HostHolds
-unfolding HostHolds
-host-holds = held-from
+pub host-holds-words : HostHoldsWords
+unfolding HostHoldsWords
+host-holds-words = held-from
+
+pub asked-returns : AskedReturns
+unfolding AskedReturns exportOf Returns
+asked-returns (some call) p p′ out w = w
+asked-returns none p p′ out w = w
 
 -- ---- demand 3
 
 -- what one call adds, for an operation and in all
 gets-one : (y : Export) (pool : List ℕ) (ls : Lengths) (t b : ℕ) (s : State) (es : List Event)
-    → gets s (eventsFor y pool ls ++ es) t b
-    ≡ pick (bringsTo t y) (withBytes (bytesAt (run s (eventsFor y pool ls)) b) (drop (length (s .ready)) (run s (eventsFor y pool ls) .ready))) [] ++ gets (run s (eventsFor y pool ls)) es t b
-unfolding gets eventsFor bringsTo run addedBy pick
+    → gets s (eventsFor y pool ls ++ es) t b ≡ pick (bringsTo t y) (withBytes (bytesAt (nextFor s y pool ls) b) (drop (length (s .ready)) (nextFor s y pool ls .ready))) [] ++ gets (run s (eventsFor y pool ls)) es t b
+unfolding gets eventsFor bringsTo run addedBy nextFor pick
 gets-one (makes m) pool ls t b s es = refl
 gets-one nameless pool ls t b s es = refl
-
-drop-all : {A : Type 0} (xs : List A) → drop (length xs) xs ≡ []
-drop-all [] = refl
-drop-all (y ∷ xs) = drop-all xs
+gets-one (reopens o plan) pool ls t b s es = refl
 
 added-one : (y : Export) (pool : List ℕ) (ls : Lengths) (s : State) (es : List Event)
-    → added s (eventsFor y pool ls ++ es) ≡ drop (length (s .ready)) (run s (eventsFor y pool ls) .ready) ++ added (run s (eventsFor y pool ls)) es
-unfolding added eventsFor run addedBy
+    → added s (eventsFor y pool ls ++ es) ≡ drop (length (s .ready)) (nextFor s y pool ls .ready) ++ added (run s (eventsFor y pool ls)) es
+unfolding added eventsFor run addedBy nextFor leave
 added-one (makes m) pool ls s es = refl
-added-one nameless pool ls s es = ap (λ (cs : List Completion). cs ++ added s es) (sym (drop-all (s .ready)))
+added-one nameless pool ls s es = ap (λ (cs : List Completion). cs ++ added s es) (sym (drop-length (s .ready)))
+added-one (reopens o plan) pool ls s es = ap (λ (cs : List Completion). cs ++ added s es) (sym (drop-length (s .ready)))
 
-front-so : (y : Export) (t b : ℕ) (s s′ : State) (cs cs′ : List Completion) → Exactly y s s′ → cs ≡ cs′ → pick (bringsTo t y) (withBytes (bytesAt s b) cs) [] ≡ pick (bringsTo t y) (withBytes (bytesAt s′ b) cs′) []
-unfolding Exactly bringsTo pick
-front-so (makes m) t b s s′ cs cs′ e f = λ j. pick (isBrought (brought t m)) (withBytes (bytesAt (e j) b) (f j)) []
-front-so nameless t b s s′ cs cs′ e f = refl
+-- a front of the calls
+front-of : (m : ℕ) (us : List WordTurn) (p : Parts) → WordTurnsFrom p us → WordTurnsFrom p (take m us)
+unfolding WordTurnsFrom
+front-of zero us p k = tt
+front-of (suc m) [] p k = tt
+front-of (suc m) (u ∷ us) p k = (k .0, front-of m us (u .held) (k .1))
 
 -- what is held at each call is what the history says, as far as demand 3 looks
 module _ (x : Start) where
@@ -387,33 +445,25 @@ module _ (x : Start) where
   unfolding tableIn leave
   same-free h p z = ap (λ (s : State). s .free) (z .holds .table)
 
-  -- the completions that a call adds
-  added-so : (h : List Event) (p q : Parts) (g : List Event) → HoldsIn x h p → HoldsIn x g q → addedTo p q ≡ drop (length (after x h .ready)) (after x g .ready)
-  added-so h p q g z w = λ j. drop (length (same-ready h p z j)) (same-ready g q w j)
-
-  gets-so : (t b : ℕ) (us : List Turn) (h : List Event) (p : Parts) → HoldsIn x h p → Turns p us → gets (after x h) (historyOf us) t b ≡ getsIn p us t b
-  unfolding Turns historyOf gets getsIn
+  gets-so : (t b : ℕ) (us : List WordTurn) (h : List Event) (p : Parts) → HoldsIn x h p → WordTurnsFrom p us → gets (after x h) (historyOf us) t b ≡ getsInWords p us t b
+  unfolding WordTurnsFrom historyOf gets getsInWords
   gets-so t b [] h p z k = refl
   gets-so t b (u ∷ us) h p z k =
       let one = turn-done x h p z u (k .0) in
       let more = gets-so t b us (h ++ eventsOf u) (u .held) (one .holds) (k .1) in
-      let s = after x h in
-      let here : after x (h ++ eventsOf u) ≡ run s (eventsOf u) = run-after x h (eventsOf u) in
-      gets-one (u .export) (u .leaves) (lengthsLent (u .lent)) t b s (historyOf us)
-      ∙ (λ j. pick (bringsTo t (u .export)) (withBytes (bytesAt (sym here j) b) (drop (length (s .ready)) (sym here j .ready))) [] ++ gets (sym here j) (historyOf us) t b)
-      ∙ (λ j. sym (front-so (u .export) t b (tableIn (u .held)) (after x (h ++ eventsOf u)) (addedTo p (u .held)) (drop (length (s .ready)) (after x (h ++ eventsOf u) .ready)) (one .exactly) (added-so h p (u .held) (h ++ eventsOf u) z (one .holds))) j ++ more j)
+      let ready = same-ready h p z in
+      gets-one (u .export) (u .leaves) (lengthsLent (u .lent)) t b (after x h) (historyOf us)
+      ∙ (λ j. pick (bringsTo t (u .export)) (withBytes (bytesAt (sym (one .exactly) j) b) (drop (length (sym ready j)) (sym (one .exactly) j .ready))) [] ++ (ap (λ (s : State). gets s (historyOf us) t b) (sym (run-after x h (eventsOf u))) ∙ more) j)
 
-  all-added : (us : List Turn) (h : List Event) (p : Parts) → HoldsIn x h p → Turns p us → added (after x h) (historyOf us) ≡ addedIn p us
-  unfolding Turns historyOf added addedIn
+  all-added : (us : List WordTurn) (h : List Event) (p : Parts) → HoldsIn x h p → WordTurnsFrom p us → added (after x h) (historyOf us) ≡ addedInWords p us
+  unfolding WordTurnsFrom historyOf added addedInWords
   all-added [] h p z k = refl
   all-added (u ∷ us) h p z k =
       let one = turn-done x h p z u (k .0) in
       let more = all-added us (h ++ eventsOf u) (u .held) (one .holds) (k .1) in
-      let s = after x h in
-      let here : after x (h ++ eventsOf u) ≡ run s (eventsOf u) = run-after x h (eventsOf u) in
-      added-one (u .export) (u .leaves) (lengthsLent (u .lent)) s (historyOf us)
-      ∙ (λ j. drop (length (s .ready)) (sym here j .ready) ++ added (sym here j) (historyOf us))
-      ∙ (λ j. sym (added-so h p (u .held) (h ++ eventsOf u) z (one .holds)) j ++ more j)
+      let ready = same-ready h p z in
+      added-one (u .export) (u .leaves) (lengthsLent (u .lent)) (after x h) (historyOf us)
+      ∙ (λ j. drop (length (sym ready j)) (sym (one .exactly) j .ready) ++ (ap (λ (s : State). added s (historyOf us)) (sym (run-after x h (eventsOf u))) ∙ more) j)
 
   module _ (h : List Event) (p : Parts) (z : HoldsIn x h p) where
     same-row : (r : ℕ) → rowAt (tableIn p) r ≡ rowAt (after x h) r
@@ -424,53 +474,64 @@ module _ (x : Start) where
     unfolding tagAt
     same-tag r = ap (λ (y : Row). queueTag r (y .generation)) (same-row r)
 
-    end-of : (us : List Turn) → Turns p us → HoldsIn x (h ++ historyOf us) (heldAfter p us)
+    end-of : (us : List WordTurn) → WordTurnsFrom p us → HoldsIn x (h ++ historyOf us) (partsAfter p us)
     end-of us k = turns-done x us h p z k .0
 
-    no-more-so : (us : List Turn) → Turns p us → NoMore (after x h) (historyOf us) → NoMoreIn x h p us
+    -- what is held is sound, and of the opening's depth
+    balanced : (g : List Event) (q : Parts) → HoldsIn x g q → length (tableIn q .free) + liveRows (tableIn q .rows) ≡ tableIn p .settings .depth
+    unfolding tableIn leave
+    balanced g q w =
+        held-laws .sound x g (countsIn (q .counts)) (lentOfParts q) (w .holds) .balance ∙ ap (λ (s : State). s .settings .depth) (w .holds .table) ∙ ap (λ (o : Opening). o .depth) (reached-after x g (w .holds .hosted) .fixed .settings ∙ sym (reached-after x h (z .holds .hosted) .fixed .settings))
+        ∙ sym (ap (λ (s : State). s .settings .depth) (z .holds .table))
+
+    no-more-so : (us : List WordTurn) → WordTurnsFrom p us → NoMore (after x h) (historyOf us) → NoMoreInWords x h p us
     no-more-so us k n =
         let e = all-added us h p z k in
         let end = end-of us k in
         record {
+          as-steps = turns-done x us h p z k .1;
           count = ap length (sym e) ∙ n .count ∙ ap liveRows (sym (same-rows h p z));
           queue = (λ j. same-ready h p z j ++ sym e j) ∙ n .queue
-              ∙ (λ j. takings (after x h) (historyOf us) ++ (ap (λ (s : State). s .ready) (sym (run-after x h (historyOf us))) ∙ sym (same-ready (h ++ historyOf us) (heldAfter p us) end)) j);
+              ∙ (λ j. takings (after x h) (historyOf us) ++ (ap (λ (s : State). s .ready) (sym (run-after x h (historyOf us))) ∙ sym (same-ready (h ++ historyOf us) (partsAfter p us) end)) j);
+          balance = λ m. balanced (h ++ historyOf (take m us)) (partsAfter p (take m us)) (end-of (take m us) (front-of m us p k));
         }
 
-    module _ (us vs : List Turn) (k₁ : Turns p us) (k₂ : Turns p vs) (d : Supposed (after x h) (historyOf us) (historyOf vs)) where
-      agreed : Agreed x h (λ b. 0) (historyOf us) (historyOf vs)
+    module _ (card : Card) (us vs : List WordTurn) (k₁ : WordTurnsFrom p us) (k₂ : WordTurnsFrom p vs) (d : Supposed (after x h) (historyOf us) (historyOf vs)) where
+      agreed : Agreed x h card (historyOf us) (historyOf vs)
       unfolding Demand3
-      agreed = demand3 x h (z .holds .hosted) (λ b. 0) (historyOf us) (historyOf vs) d
+      agreed = demand3 x h (z .holds .hosted) card (historyOf us) (historyOf vs) d
 
-      got : (r : ℕ) (ws : List Turn) → Turns p ws → getsIn p ws (tagAt (tableIn p) r) (rowAt (tableIn p) r .buffer) ≡ gets (after x h) (historyOf ws) (tagAt (after x h) r) (rowAt (after x h) r .buffer)
-      got r ws k = (λ j. getsIn p ws (same-tag r j) (same-row r j .buffer)) ∙ sym (gets-so (tagAt (after x h) r) (rowAt (after x h) r .buffer) ws h p z k)
+      got : (r : ℕ) (ws : List WordTurn) → WordTurnsFrom p ws → getsInWords p ws (tagAt (tableIn p) r) (rowAt (tableIn p) r .buffer) ≡ gets (after x h) (historyOf ws) (tagAt (after x h) r) (rowAt (after x h) r .buffer)
+      got r ws k = (λ j. getsInWords p ws (same-tag r j) (same-row r j .buffer)) ∙ sym (gets-so (tagAt (after x h) r) (rowAt (after x h) r .buffer) ws h p z k)
 
-      each-so : (r : ℕ) → isLive (rowAt (tableIn p) r .awaits) ≡ true → OneEachIn x h p us vs r
+      each-so : (r : ℕ) → isLive (rowAt (tableIn p) r .awaits) ≡ true → OneEachInWords x h p us vs r
       each-so r live =
           let o = agreed .each r (ap (λ (y : Row). isLive (y .awaits)) (sym (same-row r)) ∙ live) in
           record {
             it = o .it;
             first = got r us k₁ ∙ o .first;
             second = got r vs k₂ ∙ o .second;
-            alone = ap (aloneAt x (h ++ historyOf us)) (same-tag r) ∙ o .alone₁;
+            alone₁ = ap (aloneAt x (h ++ historyOf us)) (same-tag r) ∙ o .alone₁;
+            alone₂ = ap (aloneAt x (h ++ historyOf vs)) (same-tag r) ∙ o .alone₂;
           }
 
-      free-at : (ws : List Turn) → Turns p ws → tableIn (heldAfter p ws) .free ≡ run (after x h) (historyOf ws) .free
-      free-at ws k = same-free (h ++ historyOf ws) (heldAfter p ws) (end-of ws k) ∙ ap (λ (s : State). s .free) (run-after x h (historyOf ws))
+      free-at : (ws : List WordTurn) → WordTurnsFrom p ws → tableIn (partsAfter p ws) .free ≡ run (after x h) (historyOf ws) .free
+      free-at ws k = same-free (h ++ historyOf ws) (partsAfter p ws) (end-of ws k) ∙ ap (λ (s : State). s .free) (run-after x h (historyOf ws))
 
-      row-at : (r : ℕ) (ws : List Turn) → Turns p ws → rowAt (tableIn (heldAfter p ws)) r ≡ rowAt (run (after x h) (historyOf ws)) r
+      row-at : (r : ℕ) (ws : List WordTurn) → WordTurnsFrom p ws → rowAt (tableIn (partsAfter p ws)) r ≡ rowAt (run (after x h) (historyOf ws)) r
       unfolding rowAt
-      row-at r ws k = ap (λ (rows : List Row). getD rows r (freed 0)) (same-rows (h ++ historyOf ws) (heldAfter p ws) (end-of ws k) ∙ ap (λ (s : State). s .rows) (run-after x h (historyOf ws)))
+      row-at r ws k = ap (λ (rows : List Row). getD rows r (freed 0)) (same-rows (h ++ historyOf ws) (partsAfter p ws) (end-of ws k) ∙ ap (λ (s : State). s .rows) (run-after x h (historyOf ws)))
 
-      agreed-in : AgreedIn x h p us vs
+      agreed-in : AgreedInWords x h p card us vs
       agreed-in = record {
         each = each-so;
         no-more₁ = no-more-so us k₁ (agreed .no-more₁);
         no-more₂ = no-more-so vs k₂ (agreed .no-more₂);
         free-rows = λ r. ap (times r) (free-at us k₁) ∙ agreed .free-rows r ∙ sym (ap (times r) (free-at vs k₂));
         generations = λ r. ap (λ (y : Row). y .generation) (row-at r us k₁) ∙ agreed .generations r ∙ sym (ap (λ (y : Row). y .generation) (row-at r vs k₂));
+        card-bytes = agreed .card-bytes;
       }
 
 pub demand3-in-words : Demand3InWords
 unfolding Demand3InWords
-demand3-in-words x h p z us vs = agreed-in x h p z us vs
+demand3-in-words x h p z card us vs = agreed-in x h p z card us vs

@@ -21,10 +21,10 @@ use Rattle.step.specs.Questions.{writeQuestions, readQuestions}
 use Rattle.step.specs.Rules.{opOf, firstOf, lastOf, rangeOf, pieceOf, pieceLength, Input.answered, Input.flushed, bufferAs, errorOf, turnedBack, isWritten, causeOf, failedRead, readOutcome, readLength, ticketOf, writtenAs, lastPiece, abovePiece, isRefusal, firstRefused, isWhole, goesOn, splitAfter, pieceAnswered, flushOutcome, flushEnds, answerRules, flushRules, rules, rangeStart, rangeEnd}
 use Rattle.step.specs.Step.{queueTag, topOf, rowAt, verdictOf, writeVerdict, readVerdict, durableAs, claimedBy, oneMore, accepted, submitted, rowOf, generationOf, isLive, names, bytesAt, raised, awaitsNow, oneLess, keptBy, poisonWith}
 use Rattle.step.specs.Step.{going, freeing, planOf, asksFor, completionOf, rejection, settled, fateOf, underTag, givenBack, taken, writesIn, anyWrites, oldest, markOf, lookedUp, eqLengths, called, step, look}
-use Rattle.step.specs.Run.{leave, done, next, replyTo, run, replies}
+use Rattle.step.specs.Run.{leave, done, next, replyTo, run}
 use Rattle.step.specs.Lists.{broughtBy, brought, isAway, loose, planAt, Given, givenAs, isBrought, tagIn, tagAt, Completed, withBytes, addedBy, gets}
 use Rattle.step.specs.Demand3.{listedCall, isListed, isWrite}
-use Rattle.examples.specs.Acts.{madeIn, fronted, leavesOf, lengthsOf, eventsOf}
+use Rattle.examples.specs.Acts.{madeIn, fronted, leavesOf, lengthsOf, eventsOf, replies}
 use Rattle.examples.specs.Demand3Lists.{opening, plan, lengths, table, aByteShort, aRowMore, submissions, s, byFlush, first, second, l₁, l₂, inTwo, readShort, readLost, synced, readFailed, flushFailed, replies₁, replies₂}
 use Rattle.examples.proofs.Beside.{beside, Laid}
 use Rattle.examples.proofs.Acts.{inBuffer, permits, permitted, fairTo, fairIn, fair, fits, bytesIn, toldBy, told, allCome, tells, telling}

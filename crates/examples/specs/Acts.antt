@@ -2,11 +2,12 @@
 use mathlib.Core.List.{List, [], _∷_}
 use Prim.Native.Nat.{ℕ}
 use Rattle.iobuf.specs.Turn.{withStretch}
+use Rattle.completion.specs.declared.Reply.{Reply}
 use Rattle.model.specs.declared.Lengths.{Lengths}
 use Rattle.model.specs.State.{State}
 use Rattle.model.specs.Memory.{over}
 use Rattle.step.specs.Step.{rowAt, bytesAt}
-use Rattle.step.specs.Run.{Made, Event, next}
+use Rattle.step.specs.Run.{Made, Event, next, replyTo}
 
 pub data Act : Type 0 where
   -- a call or a lookup, with the pool as it was
@@ -46,3 +47,8 @@ eventOf s a = record { leaves = leavesOf s a; lengths = lengthsOf s a; made = ma
 unfoldable pub eventsOf : State → List Act → List Event
 eventsOf s [] = []
 eventsOf s (a ∷ more) = eventOf s a ∷ eventsOf (next s (eventOf s a)) more
+
+-- what the table replies to each
+unfoldable pub replies : State → List Event → List Reply
+replies s [] = []
+replies s (e ∷ es) = replyTo s e ∷ replies (next s e) es

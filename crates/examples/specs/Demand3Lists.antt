@@ -32,11 +32,11 @@ use Rattle.model.specs.declared.Lookup.the-variants as Lookup
 use Rattle.model.specs.State.{State}
 use Rattle.model.specs.Opening.{opened, plansIn, opens}
 use Rattle.step.specs.Step.{rowAt}
-use Rattle.step.specs.Run.{Made, Made.calls, Made.looks, Event, run, Start, replies}
+use Rattle.step.specs.Run.{Made, Made.calls, Made.looks, Event, run, Start}
 use Rattle.step.specs.Lists.{Completed, gets, Hosted, tagAt}
 use Rattle.step.specs.Demand3.{Supposed, Agreed}
 use Rattle.step.specs.Figures.{openingWith}
-use Rattle.examples.specs.Acts.{Act, Act.makes, Act.writes, Act.arrives, Act.lends, eventsOf}
+use Rattle.examples.specs.Acts.{Act, Act.makes, Act.writes, Act.arrives, Act.lends, eventsOf, replies}
 
 -- ---- the opening
 

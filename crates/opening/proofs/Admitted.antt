@@ -5,6 +5,7 @@ use mathlib.Core.List.{List}
 use Prim.Native.Nat.{ℕ}
 use native.Mathlib.Omega.{arith}
 use Rattle.layout.specs.Pick.{pick}
+use Rattle.completion.specs.declared.Refusal.{Refusal}
 use Rattle.model.specs.declared.{Opening.Opening, Counts.Counts, Row.Row}
 use Rattle.model.specs.State.{fresh}
 use Rattle.model.specs.Opening.{opens}
@@ -34,3 +35,13 @@ module _ (o : Opening) (plan : List ℕ) (l : Lent) where
     unfolding lentAfter
     left-is =
         λ j. record { rows = z .rows-are j; store = z .store-is j; free = z .free-is j; ready = z .ready-is j; owners = z .owners-are j; pool = sym (pool-kept (opens o plan (lengthsOf l))) j }
+
+  -- a refusal is that of one that is not admitted: what is lent stays
+  not-told : (t : Bool) (f : Refusal) → Opened.No f ≡ pick t (Opened.Table fresh) refused → t ≡ false
+  unfolding pick
+  not-told true f e = absurd (let z : _≡_ {A = ℕ} 0 1 = cc in omega arith)
+  not-told false f e = refl
+
+  pub unopened : (f : Refusal) (rows : List Row) (store free ready owners : List ℕ) → OpensTo o plan l (Opened.No f) rows store free ready owners → lentAfter o plan l ≡ l
+  unfolding lentAfter pick
+  unopened f rows store free ready owners z = λ j. pick (not-told (opens o plan (lengthsOf l)) f (z .reply) j) (openedLent o plan l) l

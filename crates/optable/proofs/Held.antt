@@ -3,7 +3,7 @@
 use mathlib.Core.Path.{_≡_, refl, sym, ap, _∙_, subst}
 use mathlib.Core.Logic.{_≢_, _⊎_, inl, inr}
 use mathlib.Core.Bool.{Bool, true, false, _&&_}
-use mathlib.Core.List.{List, [], _∷_, _++_, map}
+use mathlib.Core.List.{List, [], _∷_, _++_, map, append-assoc, append-nil}
 use Prim.Native.Nat.{ℕ, _+_, _*_, _≤_, _<_}
 use native.Mathlib.Omega.{arith}
 use lib.ListN.{length, take, drop, replicate, length-append, length-take, length-drop, length-replicate}
@@ -24,7 +24,7 @@ use Rattle.model.proofs.Opened.{length-up}
 use Rattle.step.specs.Questions.{regionAt, heldAt}
 use Rattle.step.specs.Step.{step, look, rowAt, bytesAt, isLive, eqLengths}
 use Rattle.step.specs.Sound.{Sound}
-use Rattle.step.specs.Run.{Made, Made.calls, Made.looks, Event, Start, openedBy, plansOf, leave, done, next, run, after, replyTo, replies}
+use Rattle.step.specs.Run.{Made, Made.calls, Made.looks, Event, Start, openedBy, plansOf, leave, done, next, run, after, replyTo}
 use Rattle.step.specs.Lists.{loose, planAt, LooseIn, HostMay, Hosted}
 use Rattle.step.specs.Demand3.{alonesAfter, Projected}
 use Rattle.step.proofs.Laws.{step-laws}
@@ -33,7 +33,7 @@ use Rattle.step.proofs.ProjectionHost.{sole}
 use Rattle.step.proofs.ProjectionReached.{Reached, reached-left, run-append}
 use Rattle.step.proofs.Projection.{reached-after}
 use Rattle.optable.specs.Called.{lentOf, CallsTo, LooksTo}
-use Rattle.optable.specs.Held.{lentWith, Holds, MakesTo, Lends, Turn, Takes, Turns, countsAfter, heldAfter, eventOf, event, startAt, HoldsNext, HeldLaws}
+use Rattle.optable.specs.Held.{lentWith, Holds, MakesTo, Lends, Turn, TurnFrom, TurnsFrom, countsAfter, heldAfter, event, eventOf, AsSteps, startAt, HoldsNext, HeldLaws}
 
 -- ---- what the host may write
 
@@ -137,7 +137,7 @@ module _ (x : Start) (h : List Event) (c : Counts) (l : Lent) (z : Holds x h c l
       table = unfold leave stateIn in ap (λ (s : State). leave s (l′ .pool)) (sym there);
       lengths = long ∙ z .lengths;
     };
-    exactly = sym there;
+    exactly = sym there ∙ after-more d;
     reply = sym (ap (λ (y : State × Reply). y .1) from-held);
   }
     where
@@ -191,7 +191,7 @@ equal-lengths a b e =
       pool = eqb-true (a .pool) (b .pool) (and-right owners pool e₅) i;
     }
 
-module _ (x : Start) (h : List Event) (c : Counts) (l : Lent) (z : Holds x h c l) (u : Turn) (k : Takes c l u) where
+module _ (x : Start) (h : List Event) (c : Counts) (l : Lent) (z : Holds x h c l) (u : Turn) (k : TurnFrom c l u) where
   abbrev l₁ : Lent
   l₁ = lentWith l (u .leaves)
 
@@ -242,8 +242,8 @@ module _ (x : Start) (h : List Event) (c : Counts) (l : Lent) (z : Holds x h c l
       subst (λ (y : Lent). HoldsNext x h (eventOf u) (u .reply) (u .counts) y) (sym (kept .1))
       (subst (λ (y : Counts). HoldsNext x h (eventOf u) (u .reply) y l₁) (sym (kept .0)) (subst (λ (y : Reply). HoldsNext x h (eventOf u) y c l₁) (sym (turned .0)) z′))
 
-  pub takes : HoldsNext x h (eventOf u) (u .reply) (u .counts) (u .held)
-  takes = by-case (true-or-false (eqLengths (lengthsOf (u .lent)) (x .lengths)))
+  pub turn : HoldsNext x h (eventOf u) (u .reply) (u .counts) (u .held)
+  turn = by-case (true-or-false (eqLengths (lengthsOf (u .lent)) (x .lengths)))
     where
       by-case : (eqLengths (lengthsOf (u .lent)) (x .lengths) ≡ true) ⊎ (eqLengths (lengthsOf (u .lent)) (x .lengths) ≡ false) → HoldsNext x h (eventOf u) (u .reply) (u .counts) (u .held)
       by-case (inl e) = whole e
@@ -251,27 +251,18 @@ module _ (x : Start) (h : List Event) (c : Counts) (l : Lent) (z : Holds x h c l
 
 -- ---- lists
 
-pub append-again : {A : Type 0} (xs : List A) (y : A) (ys : List A) → (xs ++ (y ∷ [])) ++ ys ≡ xs ++ (y ∷ ys)
-append-again [] y ys = refl
-append-again (x ∷ xs) y ys = ap (λ r. x ∷ r) (append-again xs y ys)
-
 pub after-again : (x : Start) (h : List Event) (e : Event) → after x (h ++ (e ∷ [])) ≡ next (after x h) e
 unfolding after run
 after-again x h e = run-append (openedBy x) h (e ∷ [])
 
-turns : (x : Start) (h : List Event) (c : Counts) (l : Lent) (us : List Turn) → Holds x h c l → Turns c l us
-    → Holds x (h ++ map eventOf us) (countsAfter c us) (heldAfter l us) × (map (λ (u : Turn). u .reply) us ≡ replies (after x h) (map eventOf us))
-unfolding Turns countsAfter heldAfter replies
-turns x h c l [] z k = (subst (λ (g : List Event). Holds x g c l) (sym (append-none h)) z, refl)
-  where
-    append-none : (g : List Event) → g ++ [] ≡ g
-    append-none [] = refl
-    append-none (e ∷ g) = ap (λ r. e ∷ r) (append-none g)
+turns : (x : Start) (h : List Event) (c : Counts) (l : Lent) (us : List Turn) → Holds x h c l → TurnsFrom c l us → Holds x (h ++ map eventOf us) (countsAfter c us) (heldAfter l us) × AsSteps (after x h) us
+unfolding TurnsFrom countsAfter heldAfter AsSteps
+turns x h c l [] z k = (subst (λ (g : List Event). Holds x g c l) (sym (append-nil h)) z, tt)
 turns x h c l (u ∷ us) z k =
-    let one = takes x h c l z u (k .0) in
+    let one = turn x h c l z u (k .0) in
     let more = turns x (h ++ (eventOf u ∷ [])) (u .counts) (u .held) us (one .holds) (k .1) in (
-      subst (λ (g : List Event). Holds x g (countsAfter (u .counts) us) (heldAfter (u .held) us)) (append-again h (eventOf u) (map eventOf us)) (more .0),
-      (λ j. one .reply j ∷ (more .1 ∙ ap (λ (s : State). replies s (map eventOf us)) (after-again x h (eventOf u))) j),
+      subst (λ (g : List Event). Holds x g (countsAfter (u .counts) us) (heldAfter (u .held) us)) (append-assoc h (eventOf u ∷ []) (map eventOf us)) (more .0),
+      (one .reply, one .exactly, subst (λ (s : State). AsSteps s us) (after-again x h (eventOf u)) (more .1)),
     )
 
 -- ---- an opening
@@ -308,17 +299,22 @@ module _ (o : Opening) (plan : List ℕ) (l : Lent) (ok : opens o plan (lengthsO
       let there = opening-laws .state o plan l ok in
       record { hosted = tt; may = may-same (openedBy (startAt o plan l ok whole)); table = there; lengths = as-long }
 
+  opened-so : stateIn fresh (lentAfter o plan l) ≡ openedBy (startAt o plan l ok whole)
+  unfolding openedBy plansOf
+  opened-so = ap (stateIn fresh) admitted ∙ opening-laws .state o plan l ok
+
   pub opening : Holds (startAt o plan l ok whole) [] fresh (lentAfter o plan l)
   opening = subst (Holds (startAt o plan l ok whole) [] fresh) (sym admitted) opened-holds
 
 pub held-laws : HeldLaws
 held-laws = record {
   opening = opening;
+  opened = opened-so;
   sound = holds-sound;
   projected = holds-projected;
   writes = λ x h c l pool z. writes x h c l z pool;
   makes = λ x h c l m r c′ l′ z. makes x h c l z m r c′ l′;
   another-length = λ x h c l m ls z. another-length x h c l z m ls;
-  takes = λ x h c l u z. takes x h c l z u;
+  turn = λ x h c l u z. turn x h c l z u;
   turns = turns;
 }

@@ -11,12 +11,12 @@ use Rattle.completion.specs.declared.Refusal.the-variants as Refusal
 use Rattle.completion.specs.declared.Reply.{Reply}
 use Rattle.completion.specs.declared.Reply.the-variants as Reply
 use Rattle.model.specs.declared.{Opening.Opening, Counts.Counts, Lengths.Lengths}
-use Rattle.model.specs.State.{fresh}
+use Rattle.model.specs.State.{State, fresh}
 use Rattle.model.specs.Opening.{opens, HEAD}
 use Rattle.model.specs.Memory.{Lent, lengthsOf, lengthsIn, stateIn, lentAfter}
 use Rattle.step.specs.Step.{eqLengths}
 use Rattle.step.specs.Sound.{Sound}
-use Rattle.step.specs.Run.{Made, Made.calls, Made.looks, Event, Start, openedBy, leave, after, replyTo, replies}
+use Rattle.step.specs.Run.{Made, Made.calls, Made.looks, Event, Start, openedBy, leave, next, after, replyTo}
 use Rattle.step.specs.Lists.{HostMay, Hosted}
 use Rattle.step.specs.Demand3.{alonesAfter, Projected}
 use Rattle.optable.specs.Called.{lentOf, CallsTo, LooksTo}
@@ -35,13 +35,13 @@ pub record Holds (x : Start) (h : List Event) (c : Counts) (l : Lent) : Type 0 w
 
 -- ---- one call or lookup
 
--- a call, or a lookup, which changes nothing
+-- a call; or a lookup, to which all is lent by `&`, so that nothing can change
 unfoldable pub MakesTo : Made → Counts → Lent → Reply → Counts → Lent → Type 0
 MakesTo (calls call) c l r c′ l′ = CallsTo call c l r c′ l′
 MakesTo (looks x) c l r c′ l′ = LooksTo x c l r × (c′ ≡ c) × (l′ ≡ l)
 
--- What is lent to it, of what is held. Which length is another is told by the store's own words: these are the held store's, or too few to hold them.
--- A host that lends other words as the store has changed row memory. In the opening's lengths it lends all that it holds.
+-- What is lent to it, of what is held. Which length is another is told by the store's own words 13 to 18: these are the held store's, or too few
+-- words are lent to hold them. A host that lends others there has changed row memory. In the opening's lengths it lends all that it holds.
 pub record Lends (l lent : Lent) : Type 0 where
   pub words : (length (lent .store) < HEAD) ⊎ (lengthsIn (lent .store) ≡ lengthsIn (l .store))
   pub all : lengthsOf lent ≡ lengthsOf l → lent ≡ l
@@ -58,7 +58,8 @@ pub record Turn : Type 0 where
   pub counts : Counts
   pub held : Lent
 
-pub record Takes (c : Counts) (l : Lent) (u : Turn) : Type 0 where
+-- from what is held: the counts c and the memory l
+pub record TurnFrom (c : Counts) (l : Lent) (u : Turn) : Type 0 where
   pub may : HostMay (stateIn c l) (u .leaves)
   pub lends : Lends (lentWith l (u .leaves)) (u .lent)
   pub makes : MakesTo (u .made) c (u .lent) (u .reply) (u .counts-left) (u .left)
@@ -70,9 +71,9 @@ pub record Takes (c : Counts) (l : Lent) (u : Turn) : Type 0 where
 
 -- ---- lists of them
 
-unfoldable pub Turns : Counts → Lent → List Turn → Type 0
-Turns c l [] = Unit {0}
-Turns c l (u ∷ us) = Takes c l u × Turns (u .counts) (u .held) us
+unfoldable pub TurnsFrom : Counts → Lent → List Turn → Type 0
+TurnsFrom c l [] = Unit {0}
+TurnsFrom c l (u ∷ us) = TurnFrom c l u × TurnsFrom (u .counts) (u .held) us
 
 -- what is held after the last
 unfoldable pub countsAfter : Counts → List Turn → Counts
@@ -84,11 +85,16 @@ heldAfter l [] = l
 heldAfter l (u ∷ us) = heldAfter (u .held) us
 
 -- the history that they are
-abbrev pub eventOf : Turn → Event
-eventOf u = record { leaves = u .leaves; lengths = lengthsOf (u .lent); made = u .made }
-
 abbrev pub event : List ℕ → Lengths → Made → Event
 event leaves lengths made = record { leaves = leaves; lengths = lengths; made = made }
+
+abbrev pub eventOf : Turn → Event
+eventOf u = event (u .leaves) (lengthsOf (u .lent)) (u .made)
+
+-- from the table s each of them is the step's: its reply, and what is held after it, to the byte
+unfoldable pub AsSteps : State → List Turn → Type 0
+AsSteps s [] = Unit {0}
+AsSteps s (u ∷ us) = (u .reply ≡ replyTo s (eventOf u)) × (stateIn (u .counts) (u .held) ≡ next s (eventOf u)) × AsSteps (next s (eventOf u)) us
 
 -- ---- an opening
 
@@ -107,12 +113,14 @@ startAt o plan l ok whole = record { opening = o; plan = plan; lengths = lengths
 -- after one more event: the history is in what is held, which then is the table after it to the byte, and the reply was the step's
 pub record HoldsNext (x : Start) (h : List Event) (e : Event) (r : Reply) (c′ : Counts) (l′ : Lent) : Type 0 where
   pub holds : Holds x (h ++ (e ∷ [])) c′ l′
-  pub exactly : stateIn c′ l′ ≡ after x (h ++ (e ∷ []))
+  pub exactly : stateIn c′ l′ ≡ next (after x h) e
   pub reply : r ≡ replyTo (after x h) e
 
 pub record HeldLaws : Type 0 where
   pub opening : (o : Opening) (plan : List ℕ) (l : Lent) (ok : opens o plan (lengthsOf l) ≡ true) (whole : length (l .pool) ≡ lengthsOf l .pool)
       → Holds (startAt o plan l ok whole) [] fresh (lentAfter o plan l)
+  pub opened : (o : Opening) (plan : List ℕ) (l : Lent) (ok : opens o plan (lengthsOf l) ≡ true) (whole : length (l .pool) ≡ lengthsOf l .pool)
+      → stateIn fresh (lentAfter o plan l) ≡ openedBy (startAt o plan l ok whole)
   -- so every call and lookup finds a table of which values are promised
   pub sound : (x : Start) (h : List Event) (c : Counts) (l : Lent) → Holds x h c l → Sound (stateIn c l)
   -- the projection, of what is held: each operation in it is the operation alone
@@ -123,13 +131,12 @@ pub record HeldLaws : Type 0 where
   -- a call or a lookup over all that is held
   pub makes : (x : Start) (h : List Event) (c : Counts) (l : Lent) (m : Made) (r : Reply) (c′ : Counts) (l′ : Lent)
       → Holds x h c l → MakesTo m c l r c′ l′ → HoldsNext x h (event (l .pool) (lengthsOf l) m) r c′ l′
-  -- one in another length gets 13, and is in the history as such
+  -- an event in another length gets 13, and leaves what is held
   pub another-length : (x : Start) (h : List Event) (c : Counts) (l : Lent) (m : Made) (ls : Lengths)
       → Holds x h c l → eqLengths ls (x .lengths) ≡ false → HoldsNext x h (event (l .pool) ls m) (Reply.No Refusal.Unfit) c l
   -- one in whatever lengths
-  pub takes : (x : Start) (h : List Event) (c : Counts) (l : Lent) (u : Turn) → Holds x h c l → Takes c l u
+  pub turn : (x : Start) (h : List Event) (c : Counts) (l : Lent) (u : Turn) → Holds x h c l → TurnFrom c l u
       → HoldsNext x h (eventOf u) (u .reply) (u .counts) (u .held)
   -- any list of them
-  pub turns : (x : Start) (h : List Event) (c : Counts) (l : Lent) (us : List Turn) → Holds x h c l → Turns c l us
-      → Holds x (h ++ map eventOf us) (countsAfter c us) (heldAfter l us)
-      × (map (λ (u : Turn). u .reply) us ≡ replies (after x h) (map eventOf us))
+  pub turns : (x : Start) (h : List Event) (c : Counts) (l : Lent) (us : List Turn) → Holds x h c l → TurnsFrom c l us
+      → Holds x (h ++ map eventOf us) (countsAfter c us) (heldAfter l us) × AsSteps (after x h) us

@@ -59,11 +59,6 @@ unfoldable pub run : State → List Event → State
 run s [] = s
 run s (e ∷ es) = run (next s e) es
 
--- the replies to a list of events, in order
-unfoldable pub replies : State → List Event → List Reply
-replies s [] = []
-replies s (e ∷ es) = replyTo s e ∷ replies (next s e) es
-
 -- the table after a history
 unfoldable pub after : Start → List Event → State
 after x h = run (openedBy x) h
