@@ -37,11 +37,11 @@ use Rattle.step.proofs.Histories.{leaves}
 use Rattle.step.proofs.Laws.{keeps, step-laws}
 use Rattle.rusttable.specs.Table.{Result, Result.Ok, Result.Err, IoBuf, RawError, RawResult, Finish, Submitter, Issued}
 use Rattle.rusttable.specs.Table.{Completion as RustCompletion}
-use Rattle.rusttable.specs.Functions.{isSome, returned, withTable, withStore, write as rustWrite, «read_page», finish as rustFinish, «refused_next»}
+use Rattle.rusttable.specs.Functions.{isSome, returned, withTable, withStore, write as rustWrite, «read_page», finish as rustFinish, «refused_next», poison as rustPoison}
 use Rattle.rusttable.specs.Domain.{compared, knownHandle, InDomain}
 use Rattle.rusttable.specs.AsStep.{bufOf, storeOf, submitterOf, inFlight, flushedOf, posOf, isLater, finishAs, issuedAs, Finishes, Submits, isSetting}
 use Rattle.rusttable.specs.Histories.{Handed, Handed.ToWrite, Handed.ToReadPage, Handed.ToFinish, Handed.ToRefusedNext, Handed.ToFlushed, Handed.ToNext, Handed.ToGate, Handed.ToReadOnly, Handed.ToForced, Handed.ToPoison, HandedBack, HandedBack.submits, HandedBack.finishes, HandedBack.takes}
-use Rattle.rusttable.specs.Histories.{withIssued, withMark, withCause, rustStep, rustRun, rustOpened, asRust, isSubmission, refusal, refusedBy, verdict, answerTo, handedBy, handed, comesTo, answerSays, saidBy, said, MadeIn, HistoryIn, Agrees, AsHistory}
+use Rattle.rusttable.specs.Histories.{withIssued, withMark, rustStep, rustRun, rustOpened, asRust, isSubmission, refusal, refusedBy, verdict, answerTo, handedBy, handed, comesTo, answerSays, saidBy, said, MadeIn, HistoryIn, Agrees, AsHistory}
 use Rattle.rusttable.proofs.Within.{called-step}
 use Rattle.rusttable.proofs.AsStep.{as-step}
 use Rattle.rusttable.proofs.LaterPieces.{later-piece}
@@ -102,7 +102,7 @@ module _ (s : State) (l : Lengths) (issued : ℕ) where
   region-set c h mark sets q = λ j. record { store = storeOf (sym q j .0) issued; table = sym (as-step .settings s l c sets) j }
 
   poison-set : (c : Call) (cause : FirstCause) → isSetting c ≡ true → step s l c ≡ (withPoison s (firstKept (s .poison) cause), isOk) → rustStep (submitterOf s issued) (ToPoison cause) .0 ≡ submitterOf (step s l c .0) issued
-  unfolding rustStep withCause withStore submitterOf storeOf withPoison
+  unfolding rustStep rustPoison withStore submitterOf storeOf withPoison
   poison-set c cause sets q = λ j. record { store = storeOf (sym q j .0) issued; table = sym (as-step .settings s l c sets) j }
 
 taken-none : (s : State) (cs : List Completion) → tagGiven (taken s cs .1) ≡ none

@@ -11,7 +11,6 @@ use lib.ListN.{getD, set}
 use Rattle.layout.specs.Pick.{pick}
 use Rattle.domain.specs.declared.FirstCause.{FirstCause}
 use Rattle.domain.specs.declared.Poisoned.the-variants as Poisoned
-use Rattle.domain.specs.Domain.{firstKept}
 use Rattle.platform.specs.declared.Answer.{Answer}
 use Rattle.platform.specs.declared.Answer.the-variants as Answer
 use Rattle.completion.specs.declared.Reply.{Reply}
@@ -26,15 +25,14 @@ use Rattle.step.specs.Lists.{HostMay}
 use Rattle.rusttable.specs.Table.{Result, Result.Ok, Result.Err, IoBuf, RawError, RawResult, Flushed, Completion, Finish, Submitter, RegionPos}
 use Rattle.rusttable.specs.Table.{Submitted, Submitted.Taken, Submitted.Refused as QueueRefuses, Issued}
 use Rattle.rusttable.specs.Functions.{isSome, returned, withTable, withStore, finish as rustFinish, «refused_next», flushed as rustFlushed}
-use Rattle.rusttable.specs.Functions.{next as rustNext, write as rustWrite, «read_page», new as rustNew}
+use Rattle.rusttable.specs.Functions.{poison as rustPoison, next as rustNext, write as rustWrite, «read_page», new as rustNew}
 use Rattle.rusttable.specs.Domain.{InDomain}
 use Rattle.rusttable.specs.AsStep.{bufOf, submitterOf, inFlight, flushedOf, posOf, finishAs, frontAs, issuedAs}
 
 -- ---- the Rust's run
 
 -- what a function of the Rust is handed, with the queue's verdict on a first piece; with an answer goes how many flushes were issued by then, which
--- the Rust's domain counts itself. gate.rs and lifecycle.rs are not in docs/src: a setting hands over a region's handle and its new mark, a report the
--- cause.
+-- the Rust's domain counts itself. A setting hands over a region's handle and the new mark alone, a report the cause (`Domain::poison`).
 pub data Handed : Type 0 where
   ToWrite : ℕ → RegionPos → IoBuf → Bool → ℕ → Submitted → Handed
   ToReadPage : ℕ → RegionPos → IoBuf → ℕ → Submitted → Handed
@@ -56,23 +54,14 @@ pub data HandedBack : Type 0 where
 unfoldable pub withIssued : Submitter → ℕ → Submitter
 withIssued r issued = withStore r (record { settings = r .store .settings; regions = r .store .regions; poison = r .store .poison; issued = issued })
 
--- what a setting is taken to do: the store's own region at the handle gets the mark, and all else of the store stays
+-- gate.rs and lifecycle.rs are not in docs/src. What a setting is taken to do: the store's own region at the handle gets the mark, and all else of
+-- the store stays.
 unfoldable pub withMark : Submitter → ℕ → (Region → Region) → Submitter
 withMark r handle mark =
     withStore r (record {
       settings = r .store .settings;
       regions = set (r .store .regions) handle (mark (getD (r .store .regions) handle noRegion));
       poison = r .store .poison;
-      issued = r .store .issued;
-    })
-
--- what a report is taken to do: the store's poison keeps the first cause
-unfoldable pub withCause : Submitter → FirstCause → Submitter
-withCause r cause =
-    withStore r (record {
-      settings = r .store .settings;
-      regions = r .store .regions;
-      poison = firstKept (r .store .poison) cause;
       issued = r .store .issued;
     })
 
@@ -86,7 +75,7 @@ rustStep r ToNext = let z = rustNext (r .table) in (withTable r (z .table), take
 rustStep r (ToGate handle x) = (withMark r handle (λ g. withGate g x), [])
 rustStep r (ToReadOnly handle x) = (withMark r handle (λ g. withReadOnly g x), [])
 rustStep r (ToForced handle x) = (withMark r handle (λ g. withForced g x), [])
-rustStep r (ToPoison cause) = (withCause r cause, [])
+rustStep r (ToPoison cause) = (withStore r (rustPoison (r .store) cause), [])
 
 unfoldable pub rustRun : Submitter → List Handed → Submitter × List HandedBack
 rustRun r [] = (r, [])
