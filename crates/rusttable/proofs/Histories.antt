@@ -97,9 +97,13 @@ module _ (s : State) (l : Lengths) (issued : ℕ) where
   set-marked h g known = ap (λ (b : Bool). pick b (withRegions s (set (s .regions) h g), isOk) (s, turnedAway (ForeignPosition bare))) known
 
   -- the Rust's own region gets the mark that step's gets
-  region-set : (c : Call) (h : ℕ) (mark : Region → Region) → isSetting c ≡ true → step s l c ≡ (withRegions s (set (s .regions) h (mark (regionAt s h))), isOk) → withMark (submitterOf s issued) h mark ≡ submitterOf (step s l c .0) issued
+  store-marked : (h : ℕ) (mark : Region → Region) → withMark (submitterOf s issued) h mark .store ≡ storeOf (withRegions s (set (s .regions) h (mark (regionAt s h)))) issued
   unfolding withMark withStore submitterOf storeOf withRegions regionAt
-  region-set c h mark sets q = λ j. record { store = storeOf (sym q j .0) issued; table = sym (as-step .settings s l c sets) j }
+  store-marked h mark = refl
+
+  region-set : (c : Call) (h : ℕ) (mark : Region → Region) → isSetting c ≡ true → step s l c ≡ (withRegions s (set (s .regions) h (mark (regionAt s h))), isOk) → withMark (submitterOf s issued) h mark ≡ submitterOf (step s l c .0) issued
+  unfolding withMark withStore submitterOf
+  region-set c h mark sets q = λ j. record { store = (store-marked h mark ∙ ap (λ (y : State × Reply). storeOf (y .0) issued) (sym q)) j; table = sym (as-step .settings s l c sets) j }
 
   poison-set : (c : Call) (cause : FirstCause) → isSetting c ≡ true → step s l c ≡ (withPoison s (firstKept (s .poison) cause), isOk) → rustStep (submitterOf s issued) (ToPoison cause) .0 ≡ submitterOf (step s l c .0) issued
   unfolding rustStep rustPoison withStore submitterOf storeOf withPoison
