@@ -37,7 +37,7 @@ use Rattle.step.specs.Step.{poisonWith, planOf}
 use Rattle.step.proofs.Picked.{by-pick}
 use Rattle.rusttable.specs.Table.{Result, Result.Ok, Result.Err, IoBuf, RawResult, Error, Outcome, Live, Table, Finish, Store, Submitter, Done.Wrote, Done.Read, Finish.Finished, Finish.Flush}
 use Rattle.rusttable.specs.Table.{Row as RustRow}
-use Rattle.rusttable.specs.Functions.{given, mapOk, «set_len», «ctx_range», «not_written», unknown, domainTicket, ticket, «settle_write», «settle_read», «durable_receipt», put, withHeld, withTable, withStore, release, region, isFull, errIn, settleKind, settle, doneWrite, written, receipted, readLen, shortened, handBack, flushes, concluded, conclude}
+use Rattle.rusttable.specs.Functions.{given, mapOk, «set_len», «ctx_range», «not_written», poison, unknown, domainTicket, ticket, «settle_write», «settle_read», «durable_receipt», put, withHeld, withTable, withStore, release, region, isFull, errIn, settleKind, settle, doneWrite, written, receipted, readLen, shortened, handBack, flushes, concluded, conclude}
 use Rattle.rusttable.specs.AsStep.{contextOf, outcomeOf, storeOf}
 use Rattle.rusttable.proofs.Rows.{Has, live-is}
 use Rattle.rusttable.proofs.Handed.{bufAs}
@@ -203,7 +203,7 @@ module _ (s : State) (n : ℕ) (row : Row) (T : Table) (t : ℕ) where
     unwritten-ends : (buf : Buffer) (bytes : List ℕ) (answer : Answer)
         → concluded (failed (errorOf answer)) t (bufAs buf bytes) (operationOf row (Page a b)) (Err (unknown (storeOf s n) writeOp (errorOf answer) («ctx_range» g a b) .1))
         ≡ carried (Page a b) (ends (record { outcome = endsUnknown (rangeOf (planOf g) (Page a b)) (causeOf answer); buffer = buf; bytes = bytes; cause = some (causeOf answer) }))
-    unfolding unknown carried outcomeOf withStore withTable poisonWith storeOf causeOf contextOf «ctx_range» rangeOf planOf firstOf lastOf written handBack shortened readLen given
+    unfolding unknown poison carried outcomeOf withStore withTable poisonWith storeOf causeOf contextOf «ctx_range» rangeOf planOf firstOf lastOf written handBack shortened readLen given
     unwritten-ends buf bytes answer = unwritten (failed (errorOf answer)) t (bufAs buf bytes) (operationOf row (Page a b)) (Err (unknown (storeOf s n) writeOp (errorOf answer) («ctx_range» g a b) .1)) refl
 
     write-concluded : (buf : Option IoBuf) (result : RawResult) (full : Bool) → isFull result buf ≡ full → conclude x t buf result

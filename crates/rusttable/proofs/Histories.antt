@@ -37,11 +37,11 @@ use Rattle.step.proofs.Histories.{leaves}
 use Rattle.step.proofs.Laws.{keeps, step-laws}
 use Rattle.rusttable.specs.Table.{Result, Result.Ok, Result.Err, IoBuf, RawError, RawResult, Finish, Submitter, Issued}
 use Rattle.rusttable.specs.Table.{Completion as RustCompletion}
-use Rattle.rusttable.specs.Functions.{isSome, returned, withTable, withStore, write as rustWrite, «read_page», finish as rustFinish, «refused_next»}
+use Rattle.rusttable.specs.Functions.{isSome, returned, withTable, withStore, write as rustWrite, «read_page», finish as rustFinish, «refused_next», poison as rustPoison}
 use Rattle.rusttable.specs.Domain.{compared, knownHandle, InDomain}
 use Rattle.rusttable.specs.AsStep.{bufOf, storeOf, submitterOf, inFlight, flushedOf, posOf, isLater, finishAs, issuedAs, Finishes, Submits, isSetting}
-use Rattle.rusttable.specs.Histories.{Handed, Handed.ToWrite, Handed.ToReadPage, Handed.ToFinish, Handed.ToRefusedNext, Handed.ToFlushed, Handed.ToNext, Handed.ToRegion, Handed.ToPoison, HandedBack, HandedBack.submits, HandedBack.finishes, HandedBack.takes}
-use Rattle.rusttable.specs.Histories.{withIssued, rustStep, rustRun, rustOpened, asRust, isSubmission, refusal, refusedBy, verdict, answerTo, handedBy, handed, comesTo, answerSays, saidBy, said, MadeIn, HistoryIn, Agrees, AsHistory}
+use Rattle.rusttable.specs.Histories.{Handed, Handed.ToWrite, Handed.ToReadPage, Handed.ToFinish, Handed.ToRefusedNext, Handed.ToFlushed, Handed.ToNext, Handed.ToGate, Handed.ToReadOnly, Handed.ToForced, Handed.ToPoison, HandedBack, HandedBack.submits, HandedBack.finishes, HandedBack.takes}
+use Rattle.rusttable.specs.Histories.{withIssued, withMark, rustStep, rustRun, rustOpened, asRust, isSubmission, refusal, refusedBy, verdict, answerTo, handedBy, handed, comesTo, answerSays, saidBy, said, MadeIn, HistoryIn, Agrees, AsHistory}
 use Rattle.rusttable.proofs.Within.{called-step}
 use Rattle.rusttable.proofs.AsStep.{as-step}
 use Rattle.rusttable.proofs.LaterPieces.{later-piece}
@@ -96,12 +96,17 @@ module _ (s : State) (l : Lengths) (issued : ℕ) where
   unfolding marked pick
   set-marked h g known = ap (λ (b : Bool). pick b (withRegions s (set (s .regions) h g), isOk) (s, turnedAway (ForeignPosition bare))) known
 
-  region-set : (c : Call) (h : ℕ) (g : Region) → isSetting c ≡ true → step s l c ≡ (withRegions s (set (s .regions) h g), isOk) → rustStep (submitterOf s issued) (ToRegion h g) .0 ≡ submitterOf (step s l c .0) issued
-  unfolding rustStep withStore submitterOf storeOf withRegions
-  region-set c h g sets q = λ j. record { store = storeOf (sym q j .0) issued; table = sym (as-step .settings s l c sets) j }
+  -- the Rust's own region gets the mark that step's gets
+  store-marked : (h : ℕ) (mark : Region → Region) → withMark (submitterOf s issued) h mark .store ≡ storeOf (withRegions s (set (s .regions) h (mark (regionAt s h)))) issued
+  unfolding withMark withStore submitterOf storeOf withRegions regionAt
+  store-marked h mark = refl
+
+  region-set : (c : Call) (h : ℕ) (mark : Region → Region) → isSetting c ≡ true → step s l c ≡ (withRegions s (set (s .regions) h (mark (regionAt s h))), isOk) → withMark (submitterOf s issued) h mark ≡ submitterOf (step s l c .0) issued
+  unfolding withMark withStore submitterOf
+  region-set c h mark sets q = λ j. record { store = (store-marked h mark ∙ ap (λ (y : State × Reply). storeOf (y .0) issued) (sym q)) j; table = sym (as-step .settings s l c sets) j }
 
   poison-set : (c : Call) (cause : FirstCause) → isSetting c ≡ true → step s l c ≡ (withPoison s (firstKept (s .poison) cause), isOk) → rustStep (submitterOf s issued) (ToPoison cause) .0 ≡ submitterOf (step s l c .0) issued
-  unfolding rustStep withStore submitterOf storeOf withPoison
+  unfolding rustStep rustPoison withStore submitterOf storeOf withPoison
   poison-set c cause sets q = λ j. record { store = storeOf (sym q j .0) issued; table = sym (as-step .settings s l c sets) j }
 
 taken-none : (s : State) (cs : List Completion) → tagGiven (taken s cs .1) ≡ none
@@ -231,12 +236,13 @@ module _ (after : Bool) (before : Option ℕ) (s : State) (i : Sound s) (later :
   other c hand now q says none-issued h =
       from-left _ _ _ (one-more (submitterOf left issued) (submitterOf (step left l c .0) issued) hand _ _ now _ q says (onward c issued (none-later c none-issued) h))
 
-  setting : (c : Call) (j : ℕ) (g : Region) → isSetting c ≡ true → compared (step left l c .1) ≡ true → called left c ≡ marked left j g → ltb j (left .settings .regions) ≡ true
-      → HistoryIn (tagGiven (step left l c .1)) (step left l c .0) es → Agrees (rustRun (submitterOf s issued) (ToRegion j g ∷ handed false (step left l c .0) es)) (run (step left l c .0) es) (said false (step left l c .0) es)
-  unfolding tagGiven rustStep
-  setting c j g sets numbers is known h =
-      let q = called-step left l c numbers ∙ is ∙ set-marked left l issued j g known in
-      other c (ToRegion j g) [] (region-set left l issued c j g sets q) refl (ap (λ (y : State × Reply). tagGiven (y .1)) q) h
+  setting : (c : Call) (j : ℕ) (mark : Region → Region) (hand : Handed) → isSetting c ≡ true → compared (step left l c .1) ≡ true → called left c ≡ marked left j (mark (regionAt left j)) → ltb j (left .settings .regions) ≡ true
+      → rustStep (submitterOf left issued) hand ≡ (withMark (submitterOf left issued) j mark, []) → HistoryIn (tagGiven (step left l c .1)) (step left l c .0) es
+      → Agrees (rustRun (submitterOf s issued) (hand ∷ handed false (step left l c .0) es)) (run (step left l c .0) es) (said false (step left l c .0) es)
+  unfolding tagGiven
+  setting c j mark hand sets numbers is known does h =
+      let q = called-step left l c numbers ∙ is ∙ set-marked left l issued j (mark (regionAt left j)) known in
+      other c hand [] (ap (λ (y : Submitter × List HandedBack). y .0) does ∙ region-set left l issued c j mark sets q) (ap (λ (y : Submitter × List HandedBack). map some (y .1)) does) (ap (λ (y : State × Reply). tagGiven (y .1)) q) h
 
   event : (m : Made) → MadeIn before left l m → HistoryIn (tagGiven (done left l m .1)) (done left l m .0) es → Stepped m
   unfolding done refusesFirst refusedBy isSome pick handedBy saidBy isSubmission MadeIn rustStep submitterOf withTable called knownHandle isSetting tagGiven
@@ -249,9 +255,9 @@ module _ (after : Bool) (before : Option ℕ) (s : State) (i : Sound s) (later :
       let z = as-step .take before left l issued d in
       other Take ToNext _ (λ j. record { store = sym (z .store) j; table = z .table j }) (ap (λ (o : Option (Option RustCompletion)). Option·map takes o ∷ []) (z .front))
       (ap (λ (y : State × Reply). tagGiven (y .1)) (called-step left l Take (d .numbers)) ∙ taken-none left (left .ready)) h
-  event (calls (SetGate j x)) d h = setting (SetGate j x) j (withGate (regionAt left j) x) refl (d .numbers) refl (d .handle) h
-  event (calls (SetReadOnly j x)) d h = setting (SetReadOnly j x) j (withReadOnly (regionAt left j) x) refl (d .numbers) refl (d .handle) h
-  event (calls (SetForced j x)) d h = setting (SetForced j x) j (withForced (regionAt left j) x) refl (d .numbers) refl (d .handle) h
+  event (calls (SetGate j x)) d h = setting (SetGate j x) j (λ g. withGate g x) (ToGate j x) refl (d .numbers) refl (d .handle) refl h
+  event (calls (SetReadOnly j x)) d h = setting (SetReadOnly j x) j (λ g. withReadOnly g x) (ToReadOnly j x) refl (d .numbers) refl (d .handle) refl h
+  event (calls (SetForced j x)) d h = setting (SetForced j x) j (λ g. withForced g x) (ToForced j x) refl (d .numbers) refl (d .handle) refl h
   event (calls (ReportPoison cause)) d h =
       let q = called-step left l (ReportPoison cause) (d .numbers) in
       other (ReportPoison cause) (ToPoison cause) [] (poison-set left l issued (ReportPoison cause) cause refl q) refl (ap (λ (y : State × Reply). tagGiven (y .1)) q) h

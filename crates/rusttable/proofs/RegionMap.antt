@@ -13,7 +13,10 @@ use Rattle.layout.specs.Pick.{pick}
 use Rattle.regionmap.specs.Map.{Map, Run, Span, span, firstRun, spanFrom, runOf, runEnd, runLeft, place, ascends}
 use Rattle.regionmap.specs.Laws.{Lawful}
 use Rattle.regionmap.proofs.RunsFacts.{rises, span-here, span-behind}
+use Rattle.model.specs.Opening.{opened}
+use Rattle.step.specs.Run.{plansOf, openedBy}
 use Rattle.step.proofs.Picked.{by-pick}
+use Rattle.step.proofs.Laws.{step-laws}
 use Rattle.rusttable.specs.RegionMap.{run, searched, «run_of», locate, «run_end», «run_left», MapAsRust}
 
 -- the run at a place of a list
@@ -30,25 +33,30 @@ record Bracket (xs : List Run) (p lo hi : ℕ) : Type 0 where
   passed : hi < length xs → p < at xs hi .start
 
 module _ (m : Map) (p : ℕ) where
-  -- the loop is over
-  record Met (z : ℕ × ℕ) : Type 0 where
+  -- what the loop has behind some turns, and that it is over if they were enough
+  record Met (enough : Type 0) (z : ℕ × ℕ) : Type 0 where
     between : Bracket (m .more) p (z .0) (z .1)
-    over : z .1 ≤ z .0
+    over : enough → z .1 ≤ z .0
 
   -- so many turns are enough for the runs that are left
-  bracketed : (turns lo hi : ℕ) → hi ≤ lo + turns → Bracket (m .more) p lo hi → Met (searched turns m p lo hi)
+  bracketed : (turns lo hi : ℕ) → Bracket (m .more) p lo hi → Met (hi ≤ lo + turns) (searched turns m p lo hi)
   unfolding searched run
-  bracketed zero lo hi few b = record { between = b; over = omega (arith, few) }
-  bracketed (suc turns) lo hi few b =
-      by-pick (ltb lo hi) Met
+  bracketed zero lo hi b = record { between = b; over = λ few. omega (arith, few) }
+  bracketed (suc turns) lo hi b =
+      by-pick (ltb lo hi) (Met (hi ≤ lo + suc turns))
       (λ more.
       let below = ltb-true lo hi more in
-      by-pick (leb (at (m .more) (lo + (hi - lo) / 2) .start) p) Met
-      (λ reached. bracketed turns (lo + (hi - lo) / 2 + 1) hi (omega (arith, below))
+      by-pick (leb (at (m .more) (lo + (hi - lo) / 2) .start) p) (Met (hi ≤ lo + suc turns))
+      (λ reached. behind (bracketed turns (lo + (hi - lo) / 2 + 1) hi
       (record { ordered = omega (arith, below); among = b .among; reached = λ j e. subst (λ (x : ℕ). at (m .more) x .start ≤ p) (omega (arith, e)) (leb-true _ p reached); passed = b .passed }))
-      (λ past. bracketed turns lo (lo + (hi - lo) / 2) (omega (arith, below))
-      (record { ordered = omega (arith, below); among = omega (arith, b .among, below); reached = b .reached; passed = λ l. leb-false _ p past })))
-      (λ none. record { between = b; over = ltb-false lo hi none })
+      (λ few. omega (arith, below, few)))
+      (λ past. behind (bracketed turns lo (lo + (hi - lo) / 2)
+      (record { ordered = omega (arith, below); among = omega (arith, b .among, below); reached = b .reached; passed = λ l. leb-false _ p past }))
+      (λ few. omega (arith, below, few))))
+      (λ none. record { between = b; over = λ few. ltb-false lo hi none })
+    where
+      behind : {a : Type 0} {c : Type 0} {z : ℕ × ℕ} → Met c z → (a → c) → Met a z
+      behind met fewer = record { between = met .between; over = λ few. met .over (fewer few) }
 
 -- ---- the run
 
@@ -95,11 +103,21 @@ module _ (m : Map) (p : ℕ) where
   abbrev lo : ℕ
   lo = searched count m p 0 count .0
 
-  ended : Met m p (searched count m p 0 count)
-  ended = bracketed m p count 0 count (omega arith) (record { ordered = omega arith; among = le-refl count; reached = λ j e. absurd (omega arith); passed = λ l. absurd (omega arith) })
+  -- the loop's bounds behind some turns
+  searching : (turns : ℕ) → Met m p (count ≤ 0 + turns) (searched turns m p 0 count)
+  searching turns = bracketed m p turns 0 count (record { ordered = omega arith; among = le-refl count; reached = λ j e. absurd (omega arith); passed = λ l. absurd (omega arith) })
+
+  over : searched count m p 0 count .1 ≤ lo
+  over = searching count .over (omega arith)
 
   met : Bracket (m .more) p lo lo
-  met = subst (Bracket (m .more) p lo) (omega (arith, ended .over, ended .between .ordered)) (ended .between)
+  met = subst (Bracket (m .more) p lo) (omega (arith, over, searching count .between .ordered)) (searching count .between)
+
+  turn-asks : (turns : ℕ) → let z = searched turns m p 0 count in z .0 < z .1 → z .0 + (z .1 - z .0) / 2 < count
+  turn-asks turns more = omega (arith, more, searching turns .between .among)
+
+  before-asks : 0 < lo → lo - 1 < count
+  before-asks some = omega (arith, some, met .among)
 
   -- `match lo { 0 => (0, self.first), k => self.run(k - 1) }`
   before-is : (k : ℕ) → pick (eqb k 0) (0, m .first) (run m (k - 1)) ≡ (runBefore (firstRun m) (m .more) k .start, runBefore (firstRun m) (m .more) k .offset)
@@ -151,12 +169,15 @@ unfolding runOf
 run-of m law p = found-is m p ∙ ap (λ (s : Span). (s .start, s .offset, s .end)) (sym (last-run (firstRun m) (m .more) (lo m p) 0 (m .capacity) p (law .rising) (met m p)))
 
 pub map-as-rust : MapAsRust
-unfolding «run_left» runLeft
+unfolding «run_left» runLeft openedBy plansOf opened
 map-as-rust = record {
+  opened = λ x h l. step-laws .opening (x .opening) (x .plan) (x .lengths) (x .pool) (x .admitted) (x .whole) .each h l .lawful;
   run-of = run-of;
   run-end = λ m law pos. end-by m pos (run-of m law pos) (law .within);
   run-left = λ m law pos. ap (λ (e : ℕ). e - pos) (end-by m pos (run-of m law pos) (law .within));
   locate-is = λ m law pos len. place-by m pos (run-of m law pos) len;
-  loop-ends = λ m pos. le-ltb _ _ (ended m pos .over);
+  loop-ends = λ m pos. le-ltb _ _ (over m pos);
+  turn-asks = turn-asks;
+  before-asks = before-asks;
   begins = begins;
 }

@@ -1,5 +1,6 @@
 -- "The domain of the comparison: histories without numbers 11 to 16 and without an unknown handle, in which a piece that the queue refuses is refused
--- before any other call." Here: whether a call on a state is in it, given the reply to the call before.
+-- before any other call." Here: whether a call on a state is in it, given the reply to the call before. One premise goes beyond that sentence:
+-- `unjoined`, that no further run of a map continues the run before it on the card.
 use mathlib.Core.Path.{_≡_}
 use mathlib.Core.Bool.{Bool, true, false, not, _&&_}
 use mathlib.Core.List.{List, [], _∷_}

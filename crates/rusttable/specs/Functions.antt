@@ -11,7 +11,7 @@ use lib.Dec.{leb, ltb, eqb}
 use Rattle.layout.specs.Pick.{pick}
 use Rattle.regionmap.specs.declared.Position.{Position}
 use Rattle.regionmap.specs.Words.{positionOf}
-use Rattle.domain.specs.declared.{Op.Op, OsError.OsError}
+use Rattle.domain.specs.declared.{Op.Op, OsError.OsError, FirstCause.FirstCause}
 use Rattle.domain.specs.declared.Op.the-variants as Op
 use Rattle.domain.specs.declared.OsError.the-variants as OsError
 use Rattle.domain.specs.declared.Poisoned.{Poisoned as Poison}
@@ -94,17 +94,14 @@ noContext = record { region = none; range = none }
 unfoldable pub «not_written» : NotWrittenCause → ErrorContext → Error
 «not_written» cause c = NotWritten cause c
 
+-- domain/mod.rs, `Domain::poison`: "Idempotent: the first cause wins."
+unfoldable pub poison : Store → FirstCause → Store
+poison store cause =
+    record { settings = store .settings; regions = store .regions; poison = firstKept (store .poison) cause; issued = store .issued }
+
 -- io.rs, `Store::unknown`: "Poisons the domain after a failure past submission and returns the matching error."
 unfoldable pub unknown : Store → Op → OsError → ErrorContext → Store × Error
-unknown store op raw c = (
-  record {
-    settings = store .settings;
-    regions = store .regions;
-    poison = firstKept (store .poison) (record { op = op; raw = raw });
-    issued = store .issued;
-  },
-  DurabilityUnknown op raw c,
-)
+unknown store op raw c = (poison store (record { op = op; raw = raw }), DurabilityUnknown op raw c)
 
 -- io.rs, `Store::refused`
 unfoldable pub refused : Option RawError → ErrorContext → Error

@@ -7,19 +7,17 @@ use mathlib.Core.Bool.{Bool, true, false}
 use mathlib.Core.List.{List, [], _∷_, _++_, map}
 use mathlib.Core.Option.{Option, none, some, Option·map}
 use Prim.Native.Nat.{ℕ}
-use lib.ListN.{set}
+use lib.ListN.{getD, set}
 use Rattle.layout.specs.Pick.{pick}
 use Rattle.domain.specs.declared.FirstCause.{FirstCause}
 use Rattle.domain.specs.declared.Poisoned.the-variants as Poisoned
-use Rattle.domain.specs.Domain.{firstKept}
 use Rattle.platform.specs.declared.Answer.{Answer}
 use Rattle.platform.specs.declared.Answer.the-variants as Answer
 use Rattle.completion.specs.declared.Reply.{Reply}
-use Rattle.model.specs.declared.{Opening.Opening, Lengths.Lengths}
+use Rattle.model.specs.declared.{Opening.Opening, Lengths.Lengths, Gate.Gate}
 use Rattle.model.specs.declared.Call.the-variants as Call
-use Rattle.model.specs.State.{Region, State}
+use Rattle.model.specs.State.{Region, State, noRegion}
 use Rattle.model.specs.Opening.{Plan, atFirst}
-use Rattle.step.specs.Questions.{regionAt}
 use Rattle.step.specs.Step.{withGate, withReadOnly, withForced}
 use Rattle.step.specs.Run.{Made, Made.calls, Made.looks, Event, leave, next, replyTo, run, Start, plansOf, openedBy}
 use Rattle.step.specs.Alone.{tagGiven}
@@ -27,15 +25,14 @@ use Rattle.step.specs.Lists.{HostMay}
 use Rattle.rusttable.specs.Table.{Result, Result.Ok, Result.Err, IoBuf, RawError, RawResult, Flushed, Completion, Finish, Submitter, RegionPos}
 use Rattle.rusttable.specs.Table.{Submitted, Submitted.Taken, Submitted.Refused as QueueRefuses, Issued}
 use Rattle.rusttable.specs.Functions.{isSome, returned, withTable, withStore, finish as rustFinish, «refused_next», flushed as rustFlushed}
-use Rattle.rusttable.specs.Functions.{next as rustNext, write as rustWrite, «read_page», new as rustNew}
+use Rattle.rusttable.specs.Functions.{poison as rustPoison, next as rustNext, write as rustWrite, «read_page», new as rustNew}
 use Rattle.rusttable.specs.Domain.{InDomain}
 use Rattle.rusttable.specs.AsStep.{bufOf, submitterOf, inFlight, flushedOf, posOf, finishAs, frontAs, issuedAs}
 
 -- ---- the Rust's run
 
 -- what a function of the Rust is handed, with the queue's verdict on a first piece; with an answer goes how many flushes were issued by then, which
--- the Rust's domain counts itself. gate.rs and lifecycle.rs are not in docs/src: a setting puts a region's record with its new mark, and a report
--- poison, into the store.
+-- the Rust's domain counts itself. A setting hands over a region's handle and the new mark alone, a report the cause (`Domain::poison`).
 pub data Handed : Type 0 where
   ToWrite : ℕ → RegionPos → IoBuf → Bool → ℕ → Submitted → Handed
   ToReadPage : ℕ → RegionPos → IoBuf → ℕ → Submitted → Handed
@@ -43,7 +40,9 @@ pub data Handed : Type 0 where
   ToRefusedNext : ℕ → Option IoBuf → Option RawError → ℕ → Handed
   ToFlushed : ℕ → Flushed → Handed
   ToNext : Handed
-  ToRegion : ℕ → Region → Handed
+  ToGate : ℕ → Gate → Handed
+  ToReadOnly : ℕ → Bool → Handed
+  ToForced : ℕ → Bool → Handed
   ToPoison : FirstCause → Handed
 
 -- what it hands back
@@ -55,6 +54,17 @@ pub data HandedBack : Type 0 where
 unfoldable pub withIssued : Submitter → ℕ → Submitter
 withIssued r issued = withStore r (record { settings = r .store .settings; regions = r .store .regions; poison = r .store .poison; issued = issued })
 
+-- gate.rs and lifecycle.rs are not in docs/src. What a setting is taken to do: the store's own region at the handle gets the mark, and all else of
+-- the store stays.
+unfoldable pub withMark : Submitter → ℕ → (Region → Region) → Submitter
+withMark r handle mark =
+    withStore r (record {
+      settings = r .store .settings;
+      regions = set (r .store .regions) handle (mark (getD (r .store .regions) handle noRegion));
+      poison = r .store .poison;
+      issued = r .store .issued;
+    })
+
 unfoldable pub rustStep : Submitter → Handed → Submitter × List HandedBack
 rustStep r (ToWrite handle pos buf durable tag queue) = let z = rustWrite r handle pos buf durable tag queue in (z .0, submits (z .1) ∷ [])
 rustStep r (ToReadPage handle pos buf tag queue) = let z = «read_page» r handle pos buf tag queue in (z .0, submits (z .1) ∷ [])
@@ -62,26 +72,10 @@ rustStep r (ToFinish qtag buf result issued) = let z = rustFinish (withIssued r 
 rustStep r (ToRefusedNext qtag buf raw issued) = let z = «refused_next» (withIssued r issued) qtag buf raw in (z .0, finishes (z .1) ∷ [])
 rustStep r (ToFlushed qtag result) = (rustFlushed r qtag result, [])
 rustStep r ToNext = let z = rustNext (r .table) in (withTable r (z .table), takes (z .front) ∷ [])
-rustStep r (ToRegion handle g) = (
-  withStore r (record {
-    settings = r .store .settings;
-    regions = set
-        (r .store .regions) handle g;
-    poison = r .store .poison;
-    issued = r .store .issued;
-  }),
-  [],
-)
-rustStep r (ToPoison cause) = (
-  withStore r (record {
-    settings = r .store .settings;
-    regions = r .store .regions;
-    poison = firstKept
-        (r .store .poison) cause;
-    issued = r .store .issued;
-  }),
-  [],
-)
+rustStep r (ToGate handle x) = (withMark r handle (λ g. withGate g x), [])
+rustStep r (ToReadOnly handle x) = (withMark r handle (λ g. withReadOnly g x), [])
+rustStep r (ToForced handle x) = (withMark r handle (λ g. withForced g x), [])
+rustStep r (ToPoison cause) = (withStore r (rustPoison (r .store) cause), [])
 
 unfoldable pub rustRun : Submitter → List Handed → Submitter × List HandedBack
 rustRun r [] = (r, [])
@@ -151,9 +145,9 @@ handedBy after s (calls (Call.ReadPage q)) queue = ToReadPage (q .handle) (posOf
 handedBy after s (calls (Call.Answer t a back flushes)) queue = answerTo after s t back flushes (asRust a)
 handedBy after s (calls (Call.Flushed t result)) queue = ToFlushed t (flushedOf result) ∷ []
 handedBy after s (calls Call.Take) queue = ToNext ∷ []
-handedBy after s (calls (Call.SetGate h x)) queue = ToRegion h (withGate (regionAt s h) x) ∷ []
-handedBy after s (calls (Call.SetReadOnly h x)) queue = ToRegion h (withReadOnly (regionAt s h) x) ∷ []
-handedBy after s (calls (Call.SetForced h x)) queue = ToRegion h (withForced (regionAt s h) x) ∷ []
+handedBy after s (calls (Call.SetGate h x)) queue = ToGate h x ∷ []
+handedBy after s (calls (Call.SetReadOnly h x)) queue = ToReadOnly h x ∷ []
+handedBy after s (calls (Call.SetForced h x)) queue = ToForced h x ∷ []
 handedBy after s (calls (Call.ReportPoison cause)) queue = ToPoison cause ∷ []
 handedBy after s (looks x) queue = []
 

@@ -1,19 +1,23 @@
 -- regionmap.rs on values: where a region's data lies on the card, in the Rust's order of tests and statements and under its names. A map is the
 -- crate regionmap's value of one, read as the Rust's fields: `first`, `capacity`, `len` the data length, `count` how many runs follow the first. The
 -- chunks of `slots` are only where a run is stored, so run j after the first is the j-th of the list `more`; nobody extends a map here, so each load
--- gives the same. What the Rust asserts is left out and holds of every piece (AsStep, Asserts). Numbers here do not wrap, as the Rust's u64 would: of
--- a piece the sums stay below 2^64, as its positions are within the data and its bytes "within the card's size, at most 2^63 − 1" (Asserts).
+-- gives the same. What `locate` and `run_left` assert is left out and holds of every piece (AsStep, Asserts). `run` asserts that a published run has
+-- its slot: it is asked for runs below the count only (MapAsRust, turn-asks and before-asks), and that these have their slots is what the list
+-- stands for. Numbers here do not wrap, as the Rust's u64 would: of a piece the sums stay below 2^64, as its positions are within the data and its
+-- bytes "within the card's size, at most 2^63 − 1" (Asserts).
 use mathlib.Core.Path.{_≡_}
 use mathlib.Core.Bool.{false}
-use Prim.Native.Nat.{ℕ, zero, suc, _+_, _-_, _/_, _≤_, min}
+use Prim.Native.Nat.{ℕ, zero, suc, _+_, _-_, _/_, _≤_, _<_, min}
 use lib.ListN.{length, getD}
 use lib.Dec.{leb, ltb, eqb}
 use Rattle.layout.specs.Pick.{pick}
 use Rattle.regionmap.specs.Map.{Map, runOf, runEnd, runLeft, place}
 use Rattle.regionmap.specs.Laws.{Lawful}
+use Rattle.step.specs.Questions.{regionAt}
+use Rattle.step.specs.Run.{Start, openedBy}
 
--- `RegionMap::run`: "Run `j` after the first (published: below the count the caller loaded): its region offset and file offset." It is asked for
--- runs below the count only; `map_or((0, 0), ..)` past them.
+-- `RegionMap::run`: "Run `j` after the first (published: below the count the caller loaded): its region offset and file offset."
+-- `map_or((0, 0), ..)` past them.
 unfoldable pub run : Map → ℕ → ℕ × ℕ
 run m j = let s = getD (m .more) j (record { start = 0; offset = 0 }) in (s .start, s .offset)
 
@@ -54,14 +58,20 @@ unfoldable pub «run_left» : Map → ℕ → ℕ
 
 -- ---- the claim
 
--- of every map that an opening admits, and every position: what the Rust finds is what document 01's map has. Proved in proofs/RegionMap.antt
--- (map-as-rust).
+-- of every lawful map, as those of an opening are (opened) and stay (step's Sound, each), and every position: what the Rust finds is what document
+-- 01's map has. Proved in proofs/RegionMap.antt (map-as-rust).
 pub record MapAsRust : Type 0 where
+  pub opened : (x : Start) (h : ℕ) → h < x .opening .regions → Lawful (regionAt (openedBy x) h .map)
   pub run-of : (m : Map) → Lawful m → (pos : ℕ) → «run_of» m pos (length (m .more)) ≡ (runOf m pos .start, runOf m pos .offset, runOf m pos .end)
   pub run-end : (m : Map) → Lawful m → (pos : ℕ) → «run_end» m pos ≡ runEnd m pos
   pub run-left : (m : Map) → Lawful m → (pos : ℕ) → «run_left» m pos ≡ runLeft m pos
   pub locate-is : (m : Map) → Lawful m → (pos len : ℕ) → locate m pos len ≡ place m pos
   -- the loop is over: not `lo < hi`
   pub loop-ends : (m : Map) (pos : ℕ) → let z = searched (length (m .more)) m pos 0 (length (m .more)) in ltb (z .0) (z .1) ≡ false
+  -- `run` is asked for runs below the count only: in the next turn after any number of turns, and behind the loop for the run before `lo`. That at
+  -- `lo` is asked for where `lo < count`.
+  pub turn-asks : (m : Map) (pos turns : ℕ) → let z = searched turns m pos 0 (length (m .more)) in z .0 < z .1
+      → z .0 + (z .1 - z .0) / 2 < length (m .more)
+  pub before-asks : (m : Map) (pos : ℕ) → let lo = searched (length (m .more)) m pos 0 (length (m .more)) .0 in 0 < lo → lo - 1 < length (m .more)
   -- `pos - start` is no difference below 0
   pub begins : (m : Map) (pos : ℕ) → «run_of» m pos (length (m .more)) .0 ≤ pos
