@@ -6,9 +6,7 @@ use Rattle.arrival.proofs.take.take.Statement.{statement}
 use Rattle.arrival.proofs.take.take.Tie as tie
 
 returns : tie.Need-returns
-returns c =
-    let a = c .before .before .before .before .before .args in
-    (none-taken (a .row) (a .counts) (a .store .now) (a .ready .now) (a .owners .now) (c .if1 .taken), refl)
+returns c = (none-taken _ _ _ _ _ (search needs), refl)
 
 returns-2 : tie.Need-returns-2
 returns-2 c =
