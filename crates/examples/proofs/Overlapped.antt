@@ -1,11 +1,11 @@
--- The two writes of specs/Overlapped.antt, by computation: every definition on the way is opened. The byte on which it was quiet stands by the theorem.
-use mathlib.Core.Logic.{_≢_}
-use mathlib.Core.Path.{_≡_, refl, sym, ap, _∙_, subst}
+-- The writes of specs/Overlapped.antt, by computation: every definition on the way is opened. The bytes on which it was quiet stand by the theorem.
+use mathlib.Core.Path.{_≡_, refl, sym, ap, _∙_}
 use mathlib.Core.List.{List, [], _∷_, _++_}
 use Prim.Native.Nat.{ℕ, zero, suc, _+_, _≤_, _<_}
 use mathlib.Core.Bool.{true}
 use native.Mathlib.Omega.{arith}
-use lib.ListN.{length, take, getD, replicate, length-replicate, getD-replicate, List·getD-append}
+use lib.ListN.{length, getD, replicate, length-replicate, getD-replicate, List·getD-append}
+use lib.Seq.{getD-append-add}
 use Rattle.layout.specs.Pick.{pick}
 use Rattle.layout.specs.Block.{onBlock}
 use Rattle.regionmap.specs.Map.{Map, spanFrom, runOf, runEnd, runLeft, place, pieceSize}
@@ -15,6 +15,8 @@ use Rattle.regionmap.proofs.Laws.{map-laws}
 use Rattle.posix.specs.Posix.{Card, pwrite}
 use Rattle.posix.proofs.Laws.{transfer-laws}
 use Rattle.iobuf.specs.Turn.{turned, stretch, withStretch}
+use Rattle.completion.specs.declared.Completion.{Completion}
+use Rattle.model.specs.declared.{Request.Request, Call.Call}
 use Rattle.model.specs.State.{freed, upFrom}
 use Rattle.model.specs.Opening.{atFirst, opened, planIn, plansIn, opens}
 use Rattle.step.specs.Questions.{ask, firstNo, handleNamesRegion, bufferInPool, isHost, heldAt, hostHoldsBuffer, roomInTable, lifetimeLeft, gateOpen, storeWritable, unpoisoned}
@@ -27,42 +29,57 @@ use Rattle.step.specs.Lists.{broughtBy, brought, isAway, planAt, isBrought, wit
 use Rattle.step.specs.Alone.{tagGiven}
 use Rattle.step.specs.Demand2.{BeingWritten, bufferThen, Followed, isKept}
 use Rattle.step.specs.Kept.{QuietAt, Kept}
-use Rattle.step.specs.Figures.{figuresPlan, asking, inBuffer, ticketThere}
-use Rattle.step.specs.KeptRuns.{countedKept}
+use Rattle.step.specs.Figures.{figuresPlan, asking, inBuffer, answers, ticketThere}
+use Rattle.step.specs.KeptRuns.{countedKept, plain, before, submits, submittedTo, behind}
 use Rattle.step.specs.Orders.{opening, lengths, filled, inTurn, start}
 use Rattle.step.proofs.ProjectionReached.{reached-opened}
 use Rattle.step.proofs.Orders.{orders}
 use Rattle.step.proofs.Kept.{kept}
-use Rattle.examples.specs.Overlapped.{its, written, submits, submittedBy, events, offsetOf, ByteStands, CountedAsKept, Covered, Overlapped}
+use Rattle.examples.specs.Overlapped.{offsetOf, cardByte, ownByte, CountedAsKept, Quiet, Overlapped, Afterwards}
+use Rattle.examples.specs.Overlapped.{written, meanwhile, overSecond, writtenSecond, earlier, completing, later}
 use Rattle.examples.proofs.Quiet.{may}
 
--- of the rows but row 0: row 1, and past it there is none
-others : (P : ℕ → Type 0) → (P 1 → ⊥) → ((r : ℕ) → P (suc (suc r)) → ⊥) → (r : ℕ) → r ≢ 0 → P r → ⊥
-others P b c zero n z = n refl
-others P b c (suc zero) n z = b z
-others P b c (suc (suc r)) n z = c r z
+-- row 0 and row 1, and past them there is none
+by-row : (P : ℕ → Type 0) → P 0 → P 1 → ((r : ℕ) → P (suc (suc r))) → (r : ℕ) → P r
+by-row P a b more zero = a
+by-row P a b more (suc zero) = b
+by-row P a b more (suc (suc r)) = more r
 
 module _ (admitted : opens opening figuresPlan lengths ≡ true) (whole : length filled ≡ lengths .pool) where
   abbrev m : Map
-  m = regionAt (after (start admitted whole) []) 0 .map
+  m = regionAt (openedBy (start admitted whole)) 0 .map
+
+  -- where a request begins, in the map of the opening
+  record Begins (cs : List Call) (q : Request) (p : ℕ) : Type 0 where
+    map-is : regionAt (after (start admitted whole) (before admitted whole cs)) (q .handle) .map ≡ m
+    offset : q .offset .0 ≡ p
 
   record Computed : Type 0 where
-    counted : CountedAsKept admitted whole
-    other-kept : countedKept (gets (submittedBy admitted whole) (events admitted whole) 1 1) ≡ true ∷ []
     region : 0 < openedBy (start admitted whole) .settings .regions
-    map-is : regionAt (openedBy (start admitted whole)) 0 .map ≡ m
-    handle : its .handle ≡ 0
-    offset : its .offset .0 ≡ 512
-    long : its .length ≡ 1024
     data-is : m .dataLength ≡ 2048
     first-piece : (pieceSize m 512 1024 ≡ 512) × (place m 512 ≡ 1536)
     second-piece : (pieceSize m 1024 512 ≡ 512) × (place m 1024 ≡ 8192)
-    buffer : bufferThen (start admitted whole) (submits admitted whole) its ≡ replicate 512 5 ++ replicate 512 6
-    card-first : (card : Card) → cardAfter (submittedBy admitted whole) (take 1 (events admitted whole)) card ≡ pwrite card 1536 (replicate 512 5)
-    card-then : (card : Card) → cardAfter (submittedBy admitted whole) (events admitted whole) card ≡ pwrite (pwrite (pwrite card 1536 (replicate 512 5)) 1536 (replicate 512 9)) 8192 (replicate 512 6)
+    -- Overlapped
+    counted : CountedAsKept admitted whole [] 0 plain meanwhile written (replicate 512 5 ++ replicate 512 6)
+    other-kept : countedKept (gets (submittedTo admitted whole [] plain) (behind admitted whole [] plain meanwhile) 1 1) ≡ true ∷ []
+    begins : Begins [] plain 512
+    long : plain .length ≡ 1024
+    buffer : bufferThen (start admitted whole) (submits admitted whole [] plain) plain ≡ replicate 512 5 ++ replicate 512 6
+    card-first : (card : Card) → cardAfter (submittedTo admitted whole [] plain) (behind admitted whole [] plain (answers 0 512 ∷ [])) card ≡ pwrite card 1536 (replicate 512 5)
+    card-then : (card : Card) → cardAfter (submittedTo admitted whole [] plain) (behind admitted whole [] plain meanwhile) card
+        ≡ pwrite (pwrite (pwrite card 1536 (replicate 512 5)) 1536 (replicate 512 9)) 8192 (replicate 512 6)
     -- before the third event the other write's piece is under way
-    under-way : (y i : ℕ) → i < 512 → 1536 + i ≡ y → QuietAt (submittedBy admitted whole) (events admitted whole) 0 y → ⊥
-    not-there : (y : ℕ) → 2048 ≤ y → QuietAt (submittedBy admitted whole) (events admitted whole) 0 y
+    under-way : (y i : ℕ) → i < 512 → 1536 + i ≡ y → QuietAt (submittedTo admitted whole [] plain) (behind admitted whole [] plain meanwhile) 0 y → ⊥
+    not-there : (y : ℕ) → 2048 ≤ y → QuietAt (submittedTo admitted whole [] plain) (behind admitted whole [] plain meanwhile) 0 y
+    -- Afterwards
+    counted₂ : CountedAsKept admitted whole earlier 1 overSecond completing writtenSecond (replicate 1024 9)
+    earlier-kept : countedKept (gets (submittedTo admitted whole earlier overSecond) (behind admitted whole earlier overSecond later) 0 0) ≡ true ∷ []
+    begins₂ : Begins earlier overSecond 1024
+    long₂ : overSecond .length ≡ 512
+    buffer₂ : bufferThen (start admitted whole) (submits admitted whole earlier overSecond) overSecond ≡ replicate 1024 9
+    card-later : (card : Card) → cardAfter (submittedTo admitted whole earlier overSecond) (behind admitted whole earlier overSecond later) card
+        ≡ pwrite (pwrite (pwrite card 8192 (replicate 512 9)) 1536 (replicate 512 5)) 8192 (replicate 512 6)
+    not-there₂ : (y : ℕ) → 2048 ≤ y → QuietAt (submittedTo admitted whole earlier overSecond) (behind admitted whole earlier overSecond completing) 1 y
 
   computed : Computed
   unfolding opening lengths figuresPlan asking inBuffer ticketThere filled inTurn plansOf openedBy after Hosted Followed tagGiven countedKept isKept bufferThen QuietAt BeingWritten
@@ -76,6 +93,10 @@ module _ (admitted : opens opening figuresPlan lengths ≡ true) (whole : length
       regionWritable volumeAndRegionMatch generationMatches lengthAbove0 writeOnBlock aligned withinData regionAt writeQuestions
       planIn plansIn atFirst opened freed upFrom runsIn mapIn spanFrom runOf runEnd runLeft place pieceSize pick onBlock
   computed = record {
+    region = omega arith;
+    data-is = refl;
+    first-piece = (refl, refl);
+    second-piece = (refl, refl);
     counted = record {
       accepted = record { hosted = (may (openedBy (start admitted whole)), tt); made-so = refl; tag = refl };
       followed = (refl, may _, (refl, may _, (refl, may _, (refl, may _, tt))));
@@ -83,71 +104,96 @@ module _ (admitted : opens opening figuresPlan lengths ≡ true) (whole : length
       is-kept = refl;
     };
     other-kept = refl;
-    region = omega arith;
-    map-is = refl;
-    handle = refl;
-    offset = refl;
+    begins = record { map-is = refl; offset = refl };
     long = refl;
-    data-is = refl;
-    first-piece = (refl, refl);
-    second-piece = (refl, refl);
     buffer = refl;
     card-first = λ card. refl;
     card-then = λ card. refl;
     under-way = λ y i lt at quiet. quiet .1 .1 .0 1 (λ e. omega (arith, e)) (record { j = i; inside = lt; at = at });
     not-there = λ y far. (
-      others _ (λ z. z) (λ r z. z),
+      by-row _ (λ n z. n refl) (λ n z. z) (λ r n z. z),
       (
-        others _ (λ z. z) (λ r z. z),
-        (others _ (λ z. let inside : z .j < 512 = z .inside in let at : 1536 + z .j ≡ y = z .at in omega (arith, inside, at, far)) (λ r z. z), (others _ (λ z. z) (λ r z. z), tt)),
+        by-row _ (λ n z. n refl) (λ n z. z) (λ r n z. z),
+        (
+          by-row _ (λ n z. n refl) (λ n z. let inside : z .j < 512 = z .inside in let at : 1536 + z .j ≡ y = z .at in omega (arith, inside, at, far)) (λ r n z. z),
+          (by-row _ (λ n z. n refl) (λ n z. z) (λ r n z. z), tt),
+        ),
       ),
+    );
+    counted₂ = record {
+      accepted = record { hosted = (may (openedBy (start admitted whole)), (may _, tt)); made-so = refl; tag = refl };
+      followed = (refl, may _, tt);
+      gets = refl;
+      is-kept = refl;
+    };
+    earlier-kept = refl;
+    begins₂ = record { map-is = refl; offset = refl };
+    long₂ = refl;
+    buffer₂ = refl;
+    card-later = λ card. refl;
+    not-there₂ = λ y far. (
+      by-row _ (λ n z. let inside : z .j < 512 = z .inside in let at : 1536 + z .j ≡ y = z .at in omega (arith, inside, at, far)) (λ n z. n refl) (λ r n z. z),
+      tt,
     );
   }
 
-  lawful : Lawful m
-  lawful = subst Lawful (computed .map-is) (reached-opened (start admitted whole) .sound .each 0 (computed .region) .lawful)
+  -- where a byte is: q begins at p, and its i-th byte is the j-th of a piece that begins at the position a
+  placed : (cs : List Call) (q : Request) (p a n at : ℕ) → Begins cs q p → 0 < n → a < 2048 → (pieceSize m a n ≡ 512) × (place m a ≡ at)
+      → (i j : ℕ) → p + i ≡ a + j → j < 512 → offsetOf admitted whole cs q i ≡ at + j
+  placed cs q p a n at b some within is i j sum lt =
+      let lawful : Lawful m = reached-opened (start admitted whole) .sound .each 0 (computed .region) .lawful in
+      (λ k. place (b .map-is k) (b .offset k + i)) ∙ ap (place m) sum
+      ∙ map-laws .one-piece m lawful a n some (let z = computed .data-is in omega (arith, z, within)) .consecutive j (let z = is .0 in omega (arith, z, lt))
+      ∙ ap (λ (y : ℕ). y + j) (is .1)
 
-  -- where a byte of a piece is
-  placed : (p n : ℕ) → 0 < n → p < m .dataLength → (size at : ℕ) → (pieceSize m p n ≡ size) × (place m p ≡ at) → (j : ℕ) → j < size → place m (p + j) ≡ at + j
-  placed p n some within size at is j lt = map-laws .one-piece m lawful p n some within .consecutive j (let z = is .0 in omega (arith, z, lt)) ∙ ap (λ (y : ℕ). y + j) (is .1)
+  -- a byte that a piece of 512 equal bytes replaces
+  replaced : (card : Card) (at b i : ℕ) → i < 512 → pwrite card at (replicate 512 b) (at + i) ≡ b
+  replaced card at b i lt = transfer-laws .replaces card at (replicate 512 b) i (let z = length-replicate {A = ℕ} 512 b in omega (arith, z, lt)) ∙ getD-replicate 512 i b 0 lt
 
-  at-first : (i : ℕ) → i < 512 → offsetOf admitted whole i ≡ 1536 + i
-  at-first i lt =
-      (λ k. place (regionAt (after (start admitted whole) []) (computed .handle k) .map) (computed .offset k + i))
-      ∙ placed 512 1024 (omega arith) (let z = computed .data-is in omega (arith, z)) 512 1536 (computed .first-piece) i lt
-
-  at-second : (j : ℕ) → j < 512 → offsetOf admitted whole (512 + j) ≡ 8192 + j
-  at-second j lt =
-      let sum : 512 + (512 + j) ≡ 1024 + j = omega arith in
-      (λ k. place (regionAt (after (start admitted whole) []) (computed .handle k) .map) (computed .offset k + (512 + j))) ∙ ap (place m) sum
-      ∙ placed 1024 512 (omega arith) (let z = computed .data-is in omega (arith, z)) 512 8192 (computed .second-piece) j lt
-
-  -- ---- the bytes of the second piece
-
-  quiet-there : (j : ℕ) → j < 512 → QuietAt (submittedBy admitted whole) (events admitted whole) 0 (offsetOf admitted whole (512 + j))
-  quiet-there j lt = computed .not-there (offsetOf admitted whole (512 + j)) (let z = at-second j lt in omega (arith, z))
-
-  stands : (card : Card) (j : ℕ) → j < 512 → ByteStands admitted whole card (events admitted whole) (512 + j)
+  -- a byte of a piece at 8,192: where it is quiet there the byte stands, by the theorem
+  quiet-byte : (cs : List Call) (t : ℕ) (q : Request) (then : List Call) (c : Completion) (bytes : List ℕ) (p : ℕ) → CountedAsKept admitted whole cs t q then c bytes → Begins cs q p
+      → ((y : ℕ) → 2048 ≤ y → QuietAt (submittedTo admitted whole cs q) (behind admitted whole cs q then) t y)
+      → (i j : ℕ) → p + i ≡ 1024 + j → j < 512 → i < q .length → Quiet admitted whole cs t q then i (8192 + j)
   unfolding Kept
-  stands card j lt =
-      let z = computed .counted in
-      kept (start admitted whole) [] (submits admitted whole) 0 its (z .accepted) card (events admitted whole) (z .followed) written _ [] (z .gets) (z .is-kept) .completed (512 + j) (let y = computed .long in omega (arith, y, lt)) (quiet-there j lt)
+  quiet-byte cs t q then c bytes p z b not-there i j sum lt inside =
+      let at : offsetOf admitted whole cs q i ≡ 8192 + j = placed cs q p 1024 512 8192 b (omega arith) (omega arith) (computed .second-piece) i j sum lt in
+      let quiet = not-there (offsetOf admitted whole cs q i) (omega (arith, at)) in
+      record {
+        at = at;
+        quiet = quiet;
+        stands = λ card. kept (start admitted whole) (before admitted whole cs) (submits admitted whole cs q) t q (z .accepted) card (behind admitted whole cs q then) (z .followed) c bytes [] (z .gets) (z .is-kept) .completed i inside quiet;
+      }
 
   -- ---- the bytes of the first piece
 
-  -- a byte that a piece of 512 equal bytes replaces
-  replaced : (card : Card) (b i : ℕ) → i < 512 → pwrite card 1536 (replicate 512 b) (1536 + i) ≡ b
-  replaced card b i lt = transfer-laws .replaces card 1536 (replicate 512 b) i (let z = length-replicate {A = ℕ} 512 b in omega (arith, z, lt)) ∙ getD-replicate 512 i b 0 lt
+  at-first : (i : ℕ) → i < 512 → offsetOf admitted whole [] plain i ≡ 1536 + i
+  at-first i lt = placed [] plain 512 512 1024 1536 (computed .begins) (omega arith) (omega arith) (computed .first-piece) i i refl lt
 
-  own-byte : (i : ℕ) → i < 512 → getD (bufferThen (start admitted whole) (submits admitted whole) its) i 0 ≡ 5
-  own-byte i lt =
+  own-first : (i : ℕ) → i < 512 → ownByte admitted whole [] plain i ≡ 5
+  own-first i lt =
       ap (λ (l : List ℕ). getD l i 0) (computed .buffer) ∙ List·getD-append (replicate 512 5) (replicate 512 6) 0 i (let z = length-replicate {A = ℕ} 512 5 in omega (arith, z, lt)) ∙ getD-replicate 512 i 5 0 lt
 
-  other-byte : (card : Card) (i : ℕ) → i < 512 → cardAfter (submittedBy admitted whole) (events admitted whole) card (offsetOf admitted whole i) ≡ 9
-  other-byte card i lt =
+  the-others : (card : Card) (i : ℕ) → i < 512 → cardByte admitted whole [] plain meanwhile card i ≡ 9
+  the-others card i lt =
       (λ k. computed .card-then card k (at-first i lt k))
       ∙ transfer-laws .others (pwrite (pwrite card 1536 (replicate 512 5)) 1536 (replicate 512 9)) 8192 (replicate 512 6) (1536 + i) (λ j inside same. omega (arith, lt, same))
-      ∙ replaced (pwrite card 1536 (replicate 512 5)) 9 i lt
+      ∙ replaced (pwrite card 1536 (replicate 512 5)) 1536 9 i lt
+
+  -- ---- the bytes of the write over the second piece
+
+  all-quiet : (i : ℕ) → i < 512 → Quiet admitted whole earlier 1 overSecond completing i (8192 + i)
+  all-quiet i lt = quiet-byte earlier 1 overSecond completing writtenSecond (replicate 1024 9) 1024 (computed .counted₂) (computed .begins₂) (computed .not-there₂) i i refl lt (let z = computed .long₂ in omega (arith, z, lt))
+
+  own-second : (i : ℕ) → i < 512 → ownByte admitted whole earlier overSecond i ≡ 9
+  own-second i lt = ap (λ (l : List ℕ). getD l i 0) (computed .buffer₂) ∙ getD-replicate 1024 i 9 0 (omega (arith, lt))
+
+  own-earlier : (i : ℕ) → i < 512 → ownByte admitted whole [] plain (512 + i) ≡ 6
+  own-earlier i lt =
+      ap (λ (l : List ℕ). getD l (512 + i) 0) (computed .buffer) ∙ (λ k. getD (replicate 512 5 ++ replicate 512 6) (sym (length-replicate {A = ℕ} 512 5) k + i) 0)
+      ∙ getD-append-add (replicate 512 5) (replicate 512 6) i 0 ∙ getD-replicate 512 i 6 0 lt
+
+  the-earlier : (card : Card) (i : ℕ) → i < 512 → cardByte admitted whole earlier overSecond later card i ≡ 6
+  the-earlier card i lt = (λ k. computed .card-later card k (all-quiet i lt .at k)) ∙ replaced (pwrite (pwrite card 8192 (replicate 512 9)) 1536 (replicate 512 5)) 8192 6 i lt
 
 pub overlapped : Overlapped
 overlapped =
@@ -158,14 +204,31 @@ overlapped =
       admitted = admitted;
       whole = whole;
       counted = z .counted;
-      quiet = record { at = at-second admitted whole; quiet = quiet-there admitted whole; stands = stands admitted whole };
+      quiet = λ j lt. quiet-byte admitted whole [] 0 plain meanwhile written _ 512 (z .counted) (z .begins) (z .not-there) (512 + j) j (omega arith) lt (let y = z .long in omega (arith, y, lt));
       covered = record {
         at = at-first admitted whole;
-        not-quiet = λ i lt. z .under-way (offsetOf admitted whole i) i lt (sym (at-first admitted whole i lt));
-        first-answered = λ card i lt. (λ k. z .card-first card k (at-first admitted whole i lt k)) ∙ replaced admitted whole card 5 i lt ∙ sym (own-byte admitted whole i lt);
-        its-own = own-byte admitted whole;
-        the-others = other-byte admitted whole;
-        stands-not = λ card i lt same. let equal : _≡_ {A = ℕ} 9 5 = sym (other-byte admitted whole card i lt) ∙ same ∙ own-byte admitted whole i lt in omega (arith, equal);
+        not-quiet = λ i lt. z .under-way (offsetOf admitted whole [] plain i) i lt (sym (at-first admitted whole i lt));
+        first-answered = λ card i lt. (λ k. z .card-first card k (at-first admitted whole i lt k)) ∙ replaced admitted whole card 1536 5 i lt ∙ sym (own-first admitted whole i lt);
+        its-own = own-first admitted whole;
+        the-others = the-others admitted whole;
+        stands-not = λ card i lt same. let equal : _≡_ {A = ℕ} 9 5 = sym (the-others admitted whole card i lt) ∙ same ∙ own-first admitted whole i lt in omega (arith, equal);
         other-kept = z .other-kept;
       };
+    }
+
+pub afterwards : Afterwards
+afterwards =
+    let admitted = orders .admitted in
+    let whole = orders .whole in
+    let z = computed admitted whole in
+    record {
+      admitted = admitted;
+      whole = whole;
+      counted = z .counted₂;
+      quiet = all-quiet admitted whole;
+      its-own = own-second admitted whole;
+      earlier-own = own-earlier admitted whole;
+      the-earlier = the-earlier admitted whole;
+      stands-not = λ card i lt same. let equal : _≡_ {A = ℕ} 6 9 = sym (the-earlier admitted whole card i lt) ∙ same ∙ own-second admitted whole i lt in omega (arith, equal);
+      earlier-kept = z .earlier-kept;
     }

@@ -1,7 +1,17 @@
--- A write counted as kept stands on the card. From any table that calls have left, a write that was completed as written or with a receipt, whatever
--- the card answered and whatever else was submitted: every byte of its buffer at acceptance stands at its own mapped card offset when its last piece
--- was answered, and at its completion, where no piece of another write was under way on that card byte meanwhile. Where one was, nothing is said of
--- the byte, and the byte may be the other write's: crate examples, specs/Overlapped.antt. Proved in proofs/Kept.antt (kept).
+-- A write counted as kept stands on the card at its completion. From any table that calls have left, a write that was completed as written or with a
+-- receipt, whatever the card answered and whatever else was submitted: every byte of its buffer at acceptance stands at its own mapped card offset
+-- when its last piece was answered, and at its completion, where no piece of another write was under way on that card byte meanwhile. Where one was,
+-- nothing is said of the byte, and the byte may be the other write's (crate examples, specs/Overlapped.antt: Overlapped). Nor is anything said of
+-- the card after the completion: a write that was accepted earlier and is still open may yet write there (the same file: Afterwards).
+-- An answer under a live tag is taken to be for the piece that the row awaits: all pieces of an operation have one tag, and a tag is issued again
+-- after a refused first piece, so a second answer to an earlier piece or to an earlier use of the tag cannot be told apart (only a count above the
+-- piece is caught, 16).
+-- The card moves only by pieces answered whole (`cardBy`). Document 01 says so of demand 3: "nothing changes the card but a write's piece answered
+-- whole, by an answer not turned away: its bytes in the buffer go to its offset". Here that is carried over to any answers. So a piece answered
+-- whole moves its bytes, its buffer back or not (A74). What a piece moved that was answered short or with an error is unknown: nothing is claimed of
+-- its bytes, since it was under way on them (A74, of a short count). And a piece that was answered moves nothing afterwards, also where its buffer
+-- did not come back: the Rust says of such a buffer that "the kernel may still use it", but document 01 is read so that nobody does (A42).
+-- Proved in proofs/Kept.antt (kept).
 use mathlib.Core.Path.{_≡_}
 use mathlib.Core.Logic.{_≢_}
 use mathlib.Core.Bool.{true}
