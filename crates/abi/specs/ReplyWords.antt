@@ -13,7 +13,7 @@
 --                  unless its need is 0 or 2^64 − 1 (completionIn)
 -- 7 none ready     8 a setting, a report or an opening was taken
 -- 9 writes         1 whether a write awaits a piece        10 the mark    1 the mark
--- 11 a code that names nothing, outside document 01's numbers: nothing was asked, and nothing has changed
+-- 11 a code that names nothing, in the opening's lengths (else 13), outside document 01's numbers: nothing was asked, and nothing has changed
 --
 -- Words that a case has no use for are 0.
 use mathlib.Core.List.{List, [], _∷_, _++_}

@@ -23,8 +23,8 @@ pub record Held : Type 0 where
 abbrev pub heldOf : ℕ → Counts → Lent → Held
 heldOf flushes counts lent = record { flushes = flushes; counts = counts; lent = lent }
 
--- "handle 0, with its own volume, id and generation": of the table's words (the model's Memory) the volume is the 8th, region 0's id and generation
--- the 48th and the 49th
+-- "handle 0, with its own volume, id and generation": words 8, 48 and 49 of the table's (the model's Memory) are the volume and region 0's id and
+-- generation
 unfoldable pub namedIn : List ℕ → Named
 namedIn store = record { volume = getD store 8 0; region = getD store HEAD 0; generation = getD store (HEAD + 1) 0 }
 

@@ -7,7 +7,8 @@ use Rattle.completion.specs.declared.Reply.{Reply}
 use Rattle.model.specs.declared.{Counts.Counts, Lookup.Lookup}
 use Rattle.model.specs.declared.Lookup.the-variants as Lookup
 use Rattle.model.specs.Memory.{Lent}
-use Rattle.optable.specs.Called.{lentOf, LooksTo}
+use Rattle.optable.specs.Called.{LooksTo}
+use Rattle.optable.specs.Held.{lentWith}
 use Rattle.parser.specs.declared.forms.Said.{Said}
 use Rattle.parser.specs.declared.forms.Said.the-variants as Said
 use Rattle.parser.specs.Asks.{asksOf}
@@ -36,7 +37,7 @@ withPool pool h =
     record {
       flushes = h .flushes;
       counts = h .counts;
-      lent = lentOf (h .lent .rows) (h .lent .store) (h .lent .free) (h .lent .ready) (h .lent .owners) pool;
+      lent = lentWith (h .lent) pool;
     }
 
 abbrev pub Fills : ℕ → ℕ → ℕ → ℕ → ℕ → Held → Held → List ℕ → Type 0

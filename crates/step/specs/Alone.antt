@@ -2,7 +2,8 @@
 -- under its queue tag. With each go the bytes left in a read's piece, the flush count, the forced mark last set and the first cause so far: that of a
 -- report, or of a write that, run alone, was ended DurabilityUnknown by a piece's answer and not by a flush result. Those that get 13 to 16 change
 -- nothing." Nothing is read off the table but an acceptance: its reply with the queue tag. 13 follows from the lengths lent, 14 from what was
--- accepted under the tag, and 15 and 16 are judged here, by the rules (D-27).
+-- accepted under the tag, and 15 and 16 are judged here, by the rules (D-27). These are the table's own (`rules`, Rules.antt), so that a wrong rule
+-- would be wrong in both: demand 2, the Rust (crate rusttable) and the figures hold them to document 01.
 use mathlib.Core.Bool.{Bool, false}
 use mathlib.Core.Option.{Option, none, some}
 use mathlib.Core.List.{List, [], _∷_, _++_}

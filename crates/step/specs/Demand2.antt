@@ -165,7 +165,8 @@ pub record ToCome (m : Map) (q : Request) (answers : ℕ) (k : Kind) (sp : Split
   pub behind : drop answers (pieces m (q .offset .0) (wholeOf q)) ≡ pieces m (byteAt (q .offset .0) (sp .done)) (leftOf sp)
 
 -- which pieces are issued, and how many: ".. and one that issues nothing fail demand 2. One that issues the first piece and then reports the whole
--- fails 2 and 3."
+-- fails 2 and 3." All of this record is of an accepted submission, so a table that turns every one away would meet it. That a submission is accepted
+-- where document 01's questions all say yes, and is replied its first piece, is said by Asked.antt (write-accepted, read-accepted) and Figures.antt.
 pub record Issues (x : Start) (h : List Event) (e : Event) (t : ℕ) (q : Request) (es : List Event) : Type 0 where
   pub awaited : (k : Kind) (sp : Split) → names (rowAt (run (submittedIn x h e) es) (rowOf t)) t ≡ true
       → rowAt (run (submittedIn x h e) es) (rowOf t) .awaits ≡ Awaits.Piece k sp

@@ -10,7 +10,7 @@ use Rattle.layout.specs.Pick.{pick}
 use Rattle.model.specs.declared.Opening.{Opening}
 use Rattle.model.specs.State.{fresh}
 use Rattle.model.specs.declared.Lengths.{Lengths}
-use Rattle.model.specs.Memory.{Lent, lengthsOf, openedLent, lentAfter}
+use Rattle.model.specs.Memory.{Lent, lengthsOf, stateIn, openedLent, lentAfter}
 use Rattle.model.specs.Opening.{opens}
 use Rattle.optable.specs.Called.{lentOf}
 use Rattle.optable.specs.Held.{Holds, startAt}
@@ -30,7 +30,7 @@ use Rattle.session.specs.declared.Stage.the-variants.{Before, Planned, Table, R
 use Rattle.session.specs.Unopened.{Stood, beforeLine, withRegion, lentOpened, startLine, plannedLine}
 use Rattle.session.specs.Opened.{partOf, joined, TableLine}
 use Rattle.session.specs.Lines.{LineAt}
-use Rattle.tracelaws.specs.Laws.{lineEvents, Leaves, Reached, StandsAt, Stands, TraceLaws}
+use Rattle.tracelaws.specs.Laws.{lineEvents, Leaves, OpenedBy, Reached, StandsAt, Stands, TraceLaws}
 use Rattle.tracelaws.proofs.Tables.{is-open, leaves}
 use Rattle.tracelaws.proofs.Names.{own-names}
 
@@ -70,14 +70,55 @@ unfolding pick openedLent lentFor
 kept-pool o s true = sym (front (o .buffers * o .capacity) (s .lent .pool))
 kept-pool o s false = sym (front (o .buffers * o .capacity) (s .lent .pool))
 
-start-stands : (r : Started) (o : Opening) (s : Stood) → r ≡ startedAs o (s .plan) (s .lent) → Stands (startLine r o s .stood)
-unfolding startLine StandsAt startedAs opensIn lentOpened lentAfter partOf lentFor openedLent pick
-start-stands opened o s e =
+-- the bytes that the stage says
+same-bytes : {n k : ℕ} → Table n ≡ Table k → n ≡ k
+same-bytes e = cc
+
+-- what `start` leaves of an opening that is admitted
+started-as : (o : Opening) (s : Stood) → opens o (s .plan) (lengthsOf (lentFor o (s .lent))) ≡ true → OpenedBy o s (startLine opened o s .stood) (length (lentFor o (s .lent) .pool))
+unfolding startLine lentOpened lentAfter partOf lentFor openedLent
+started-as o s ok =
     let l : Lent = lentFor o (s .lent) in
-    let ok = opens-if (opens o (s .plan) (lengthsOf l)) (keeps o (s .plan)) e in
-    subst (Reached fresh)
-    (λ j. let l′ = pick (opens o (s .plan) (lengthsOf l)) (openedLent o (s .plan) l) l in lentOf (l′ .rows) (l′ .store) (l′ .free) (l′ .ready) (l′ .owners) (kept-pool o s (opens o (s .plan) (lengthsOf l)) j))
-    (record { start = startAt o (s .plan) l ok (long l); history = []; holds = held-laws .opening o (s .plan) l ok (long l) })
+    let there : lentAfter o (s .plan) l ≡ partOf (length (l .pool)) (startLine opened o s .stood) .lent =
+    λ j. let l′ = pick (opens o (s .plan) (lengthsOf l)) (openedLent o (s .plan) l) l in lentOf (l′ .rows) (l′ .store) (l′ .free) (l′ .ready) (l′ .owners) (kept-pool o s (opens o (s .plan) (lengthsOf l)) j)
+    in
+    let x : Start = startAt o (s .plan) l ok (long l) in
+    record {
+      start = x;
+      begins = record { opening-is = refl; plan-is = refl; lengths-are = refl; pool-is = refl };
+      opened = ap (stateIn fresh) (sym there) ∙ held-laws .opened o (s .plan) l ok (long l);
+      holds = subst (λ (y : Lent). Holds x [] fresh y) there (held-laws .opening o (s .plan) l ok (long l));
+    }
+
+-- only a table that opened has that stage
+admitted-so : (o : Opening) (s : Stood) → opened ≡ startedAs o (s .plan) (s .lent) → opens o (s .plan) (lengthsOf (lentFor o (s .lent))) ≡ true
+unfolding startedAs opensIn
+admitted-so o s e = opens-if (opens o (s .plan) (lengthsOf (lentFor o (s .lent)))) (keeps o (s .plan)) e
+
+start-opened : (r : Started) (o : Opening) (s : Stood) (k : ℕ) → r ≡ startedAs o (s .plan) (s .lent) → startLine r o s .stood .stage ≡ Table k → OpenedBy o s (startLine r o s .stood) k
+unfolding startLine
+start-opened opened o s k e is = subst (OpenedBy o s (startLine opened o s .stood)) (same-bytes is) (started-as o s (admitted-so o s e))
+start-opened broken o s k e is = absurd (let z : _≡_ {A = ℕ} 0 1 = cc in omega arith)
+start-opened TooLarge o s k e is = absurd (let z : _≡_ {A = ℕ} 0 1 = cc in omega arith)
+
+planned-opened : (x : OpenLine) (o : Opening) (bytes : List ℕ) (n : ℕ) (s : Stood) (k : ℕ) → plannedLine x o bytes n s .stood .stage ≡ Table k → OpenedBy o s (plannedLine x o bytes n s .stood) k
+unfolding plannedLine withRegion
+planned-opened Comment o bytes n s k is = absurd (let z : _≡_ {A = ℕ} 0 1 = cc in omega arith)
+planned-opened (opens-with x) o bytes n s k is = absurd (let z : _≡_ {A = ℕ} 0 1 = cc in omega arith)
+planned-opened Region o bytes n s k is = absurd (let z : _≡_ {A = ℕ} 0 1 = cc in omega arith)
+planned-opened starts o bytes n s k is = start-opened (startedAs o (s .plan) (s .lent)) o s k refl is
+planned-opened Bad o bytes n s k is = absurd (let z : _≡_ {A = ℕ} 0 1 = cc in omega arith)
+
+opened-law : (o : Opening) (bytes : List ℕ) (n : ℕ) (s s′ : Stood) (text : List ℕ) (k : ℕ) → LineAt (Planned o) bytes n s s′ text → s′ .stage ≡ Table k → OpenedBy o s s′ k
+unfolding LineAt
+opened-law o bytes n s s′ text k t is =
+    subst (λ (y : Stood). OpenedBy o s y k) (sym (t .0)) (planned-opened (openLineRead bytes) o bytes n s k (ap (λ (y : Stood). y .stage) (sym (t .0)) ∙ is))
+
+start-stands : (r : Started) (o : Opening) (s : Stood) → r ≡ startedAs o (s .plan) (s .lent) → Stands (startLine r o s .stood)
+unfolding startLine StandsAt
+start-stands opened o s e =
+    let z = started-as o s (admitted-so o s e) in
+    record { start = z .start; history = []; holds = z .holds }
 start-stands broken o s e = tt
 start-stands TooLarge o s e = tt
 
@@ -129,6 +170,7 @@ pub trace-laws : TraceLaws
 trace-laws = record {
   first = first-law;
   line = λ bytes n s. line-law (s .stage) bytes n s;
+  opened = opened-law;
   table = table-law;
   is-open = λ c l i. is-open (i .start) (i .history) c l (i .holds);
   own-names = own-names;

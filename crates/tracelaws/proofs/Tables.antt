@@ -20,7 +20,7 @@ use Rattle.step.specs.Step.{bytesAt}
 use Rattle.step.specs.Run.{Made, Made.calls, Made.looks, Event, Start, after, replyTo}
 use Rattle.step.specs.Lists.{HostMay}
 use Rattle.optable.specs.Called.{lentOf, CallsTo, LooksTo}
-use Rattle.optable.specs.Held.{lentWith, Holds, MakesTo, Turn, Takes, HoldsNext, event}
+use Rattle.optable.specs.Held.{lentWith, Holds, MakesTo, Turn, TurnFrom, HoldsNext, event}
 use Rattle.optable.proofs.Held.{held-laws, holds-fits, holds-sound, words-say}
 use Rattle.parser.specs.declared.{forms.Said.Said, requests.Asks.Asks}
 use Rattle.parser.specs.declared.forms.Said.the-variants as Said
@@ -93,14 +93,14 @@ module _ (x : Start) (h : List Event) where
         let u : Turn =
         record { leaves = held .lent .pool; made = looks Lookup.WritesLive; lent = short; reply = r .reply; counts-left = held .counts; left = short; counts = held .counts; held = held .lent }
         in
-        let k : Takes (held .counts) (held .lent) u = record {
+        let k : TurnFrom (held .counts) (held .lent) u = record {
           may = may-stay (held .counts) (held .lent);
           lends = record { words = inr refl; all = λ same. absurd (another same) };
           makes = (r .looked, refl, refl);
           all = λ same. absurd (another same);
           others = λ unlike c l. (refl, refl);
         } in
-        let n = held-laws .takes x h (held .counts) (held .lent) u z k in
+        let n = held-laws .turn x h (held .counts) (held .lent) u z k in
         let shortly = event (held .lent .pool) (lengthsOf short) (looks Lookup.WritesLive) in
         (subst (λ (w : Held). Holds x (h ++ (shortly ∷ [])) (w .counts) (w .lent)) (sym e) (n .holds), r .prints ∙ ap replayText (n .reply))
 

@@ -4,12 +4,12 @@
 use mathlib.Core.Path.{_≡_}
 use mathlib.Core.List.{List, [], _∷_, _++_}
 use Prim.Native.Nat.{ℕ}
-use Rattle.model.specs.declared.{Counts.Counts, Lookup.Lookup}
+use Rattle.model.specs.declared.{Opening.Opening, Counts.Counts, Lookup.Lookup}
 use Rattle.model.specs.declared.Lookup.the-variants as Lookup
 use Rattle.model.specs.Memory.{Lent, lengthsOf, stateIn}
 use Rattle.step.specs.Questions.{regionAt}
-use Rattle.step.specs.Run.{Made.calls, Made.looks, Event, Start, after, replyTo}
-use Rattle.optable.specs.Held.{Holds, event}
+use Rattle.step.specs.Run.{Made.calls, Made.looks, Event, Start, openedBy, after, replyTo}
+use Rattle.optable.specs.Held.{Holds, event, Begins}
 use Rattle.hostfill.specs.MayFill.{Open}
 use Rattle.parser.specs.declared.{forms.Said.Said, requests.Asks.Asks}
 use Rattle.parser.specs.declared.forms.Said.the-variants as Said
@@ -21,9 +21,10 @@ use Rattle.session.specs.Asking.{Held, namedIn}
 use Rattle.session.specs.Table.{shorter}
 use Rattle.session.specs.declared.Stage.{Stage}
 use Rattle.session.specs.declared.Stage.the-variants as Stage
+use Rattle.session.specs.Start.{lentFor}
 use Rattle.session.specs.Unopened.{Stood}
 use Rattle.session.specs.Opened.{partOf, TableLine}
-use Rattle.session.specs.Lines.{Line}
+use Rattle.session.specs.Lines.{LineAt, Line}
 
 -- ---- the history that lines are
 
@@ -58,6 +59,13 @@ pub record Leaves (x : Start) (h : List Event) (said : Said) (held held′ : Hel
 
 -- ---- where a trace stands
 
+-- `start` opened the table of the first k bytes of the pool: a history begins with that opening, and is in what is held
+pub record OpenedBy (o : Opening) (s s′ : Stood) (k : ℕ) : Type 0 where
+  pub start : Start
+  pub begins : Begins o (s .plan) (lengthsOf (lentFor o (s .lent))) (lentFor o (s .lent) .pool) start
+  pub opened : stateIn (s′ .counts) (partOf k s′ .lent) ≡ openedBy start
+  pub holds : Holds start [] (s′ .counts) (partOf k s′ .lent)
+
 -- a table that calls have left
 pub record Reached (c : Counts) (l : Lent) : Type 0 where
   pub start : Start
@@ -77,6 +85,9 @@ Stands s = StandsAt (s .stage) s
 pub record TraceLaws : Type 0 where
   pub first : (s : Stood) → StandsAt Stage.Before s
   pub line : (bytes : List ℕ) (n : ℕ) (s s′ : Stood) (text : List ℕ) → Stands s → Line bytes n s s′ text → Stands s′
+  -- the line that opens the table
+  pub opened : (o : Opening) (bytes : List ℕ) (n : ℕ) (s s′ : Stood) (text : List ℕ) (k : ℕ) → LineAt (Stage.Planned o) bytes n s s′ text
+      → s′ .stage ≡ Stage.Table k → OpenedBy o s s′ k
   -- a line of an open table, with its history
   pub table : (x : Start) (h : List Event) (k : ℕ) (bytes : List ℕ) (n : ℕ) (s s′ : Stood) (text : List ℕ)
       → Holds x h (s .counts) (partOf k s .lent) → TableLine k (saidRead bytes) n s s′ text
