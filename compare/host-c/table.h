@@ -8,7 +8,7 @@
  *
  * A later call with another length of row memory or pool gets 13 first, also one with a code that names nothing. The lengths are judged by the store's own words 13
  * to 18, where the opening put those that it was given: rows, store, free_rows, ready, owners, pool. So a host that lends another part of memory as the store has
- * changed the row memory, and nothing is promised.
+ * changed the row memory: a reply still comes, and what it says is not promised.
  *
  * out gets the reply, 17 words; word 0 is its case (TABLE_REPLY_..), and words that a case has no use for are 0. */
 #ifndef TABLE_H

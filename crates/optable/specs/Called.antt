@@ -50,7 +50,7 @@ pub record Beyond (o : Opening) (l l′ : Lent) : Type 0 where
 
 pub record CallsTo (call : Call) (c : Counts) (l : Lent) (r : Reply) (c′ : Counts) (l′ : Lent) : Type 0 where
   -- "A later call with another length of row memory or pool gets 13 first.": another than the store's words 13 to 18 say, where the opening put its
-  -- lengths. A host that lends another part of memory as the store has changed the row memory, of which nothing is promised.
+  -- lengths. A host that lends another part of memory as the store has changed the row memory, and only what holds of any words is promised.
   pub another-length : sameLengths (lengthsOf l) (l .store) ≡ false → r ≡ Reply.No Refusal.Unfit
   -- a call that is turned away changes nothing: no count, no row, no word, no byte
   pub turned-away : (f : Refusal) → r ≡ Reply.No f → (c′ ≡ c) × (l′ ≡ l)
