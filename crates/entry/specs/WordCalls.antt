@@ -25,6 +25,7 @@ use Rattle.abi.specs.RowWords.{rowsIn}
 unfoldable pub countsIn : List ℕ → Counts
 countsIn w = record { live = getD w 0 0; ready = getD w 1 0; submissions = getD w 2 0 }
 
+-- and the words of counts
 abbrev pub countWords : Counts → List ℕ
 countWords c = c .live ∷ c .ready ∷ c .submissions ∷ []
 
@@ -61,7 +62,7 @@ pub record CallsInWords (call : Call) (counts rows store free ready owners pool 
       (countsIn counts′) (lentIn rows′ store′ free′ ready′ owners′ pool′)
   -- a call that is turned away changes nothing: no word of the counts or of the rows either
   pub turned-away : (f : Refusal) → r ≡ Reply.No f → (counts′ ≡ counts) × (rows′ ≡ rows)
-  -- "With none ready the reply is none and nothing changes.": no word of these either
+  -- "With none ready the reply is none and nothing changes.": no word of these either, also none that countsIn and rowsIn do not read
   pub none-ready : call ≡ Call.Take → r ≡ Reply.None → (counts′ ≡ counts) × (rows′ ≡ rows)
   -- no word but those of the row that the call touches is written
   pub others : (i : ℕ) → (i < 16 * placeOf call (countsIn counts) free) ⊎ (16 * placeOf call (countsIn counts) free + 16 ≤ i)
