@@ -1,7 +1,7 @@
--- A host in C or Rust, which lends words: every export that replies, from `table_open` on. What it holds is a table that calls have left, and demand 3
--- is said of its words. A code that names nothing makes no call, and an opening that is refused changes nothing: these are no events of the history.
--- `table_turn` is lent no table: what it does to bytes of the pool is the host's own writing. Proved in proofs/Holding.antt (asked-returns,
--- host-holds-words, demand3-in-words).
+-- A host in C or Rust, which lends words: every export that replies, from `table_open` on. What it holds is a table that calls have left, and
+-- demand 3 is said of its words. A code that names nothing makes no call, and an opening that is refused changes nothing: these are no events of
+-- the history. `table_turn` is lent no table: what it does to bytes of the pool is the host's own writing. Proved in proofs/Holding.antt
+-- (asked-returns, host-holds-words, demand3-in-words).
 use mathlib.Core.Path.{_≡_}
 use mathlib.Core.Logic.{_≢_, _⊎_}
 use mathlib.Core.Bool.{Bool, true, false}
