@@ -4,7 +4,8 @@
  * The host lends: counts, 3 words; the row memory, which is rows, 16 words for each row of the depth, store, 48 + 70 x regions words, free_rows, a word for each
  * row, ready, 1 + 16 x depth words, and owners, a word for each buffer; and the pool, exactly buffers x capacity bytes. Row memory may be longer; rows are a
  * multiple of 16 words. No two of these, nor out, may overlap. The host clears the row memory before the opening: a call may read words that the opening did not
- * write, and believes none of them. Between calls the host writes neither counts nor row memory.
+ * write, and believes none of them. Between calls the host writes neither counts nor row memory; of the pool it writes only buffers that it holds and, for a read,
+ * the bytes of the piece under way.
  *
  * A later call with another length of row memory or pool gets 13 first, also one with a code that names nothing. The lengths are judged by the store's own words 13
  * to 18, where the opening put those that it was given: rows, store, free_rows, ready, owners, pool. So a host that lends another part of memory as the store has
@@ -35,7 +36,7 @@ enum {
     TABLE_REPLY_OK = 8,        /* an opening, a setting or a report was taken */
     TABLE_REPLY_WRITES = 9,    /* 1 whether a write awaits a piece */
     TABLE_REPLY_MARK = 10,     /* 1 the mark */
-    TABLE_REPLY_NAMELESS = 11  /* a code names nothing (a fourth gate, a fifth form): nothing was asked, nothing has changed */
+    TABLE_REPLY_NAMELESS = 11  /* a code names nothing (a fourth gate, a fifth form or operation): nothing was asked, nothing has changed */
 };
 
 /* document 01's numbers, out[1] of TABLE_REPLY_NO */

@@ -96,8 +96,8 @@ lengthsLent p =
       pool = length (p .pool);
     }
 
--- What is lent, of what is held. Which length is another is told by the store's own words 13 to 18: these are the held store's, or too few words are
--- lent to hold them. A host that lends others there has changed row memory. In the opening's lengths it lends all that it holds.
+-- What is lent, of what is held (optable's Held: Lends). Which length is another is told by the store's own words 13 to 18: these are the held
+-- store's, or fewer than 48 words are lent, which is another length whatever they are. In the opening's lengths the host lends all that it holds.
 pub record LendsWords (p lent : Parts) : Type 0 where
   pub words : (length (lent .store) < HEAD) ⊎ (lengthsIn (lent .store) ≡ lengthsIn (p .store))
   pub all : wordLengths lent ≡ wordLengths p → lent ≡ p

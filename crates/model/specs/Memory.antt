@@ -98,8 +98,8 @@ unfoldable pub lengthsIn : List ℕ → Lengths
 lengthsIn s = record { rows = getD s 13 0; store = getD s 14 0; free = getD s 15 0; ready = getD s 16 0; owners = getD s 17 0; pool = getD s 18 0 }
 
 -- "A later call with another length of row memory or pool gets 13 first": the lengths are those that the opening was given, as the store's own words
--- 13 to 18 have them. So where a host lends another part of memory as the store it has changed row memory, and no values are promised. Words too few
--- to hold the lengths are another length too.
+-- 13 to 18 have them. So where a host lends another part of memory as the store it has changed row memory, and no values are promised. Fewer words
+-- than the head's 48 are another length, whatever they are.
 unfoldable pub sameLengths : Lengths → List ℕ → Bool
 sameLengths l s =
     leb HEAD (length s) && (eqb (l .rows) (getD s 13 0) &&

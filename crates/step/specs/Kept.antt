@@ -10,7 +10,8 @@
 -- whole, by an answer not turned away: its bytes in the buffer go to its offset". Here that is carried over to any answers. So a piece answered
 -- whole moves its bytes, its buffer back or not (A74). What a piece moved that was answered short or with an error is unknown: nothing is claimed of
 -- its bytes, since it was under way on them (A74, of a short count). And a piece that was answered moves nothing afterwards, also where its buffer
--- did not come back: the Rust says of such a buffer that "the kernel may still use it", but document 01 is read so that nobody does (A42).
+-- did not come back: the Rust says of such a buffer that "the kernel may still use it". A42 reads document 01 so that nobody writes such a buffer;
+-- here that is carried over to the card. (A write that lost its buffer has poisoned the store, so later writes are refused, question 8.)
 -- Proved in proofs/Kept.antt (kept).
 use mathlib.Core.Path.{_≡_}
 use mathlib.Core.Logic.{_≢_}

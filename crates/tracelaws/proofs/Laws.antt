@@ -1,7 +1,7 @@
 -- The law, by the stage and by what the line says.
 use mathlib.Core.Path.{_≡_, refl, sym, ap, _∙_, subst}
 use mathlib.Core.Bool.{Bool, true, false}
-use mathlib.Core.List.{List, [], _∷_, _++_}
+use mathlib.Core.List.{List, [], _∷_, _++_, append-assoc, append-nil}
 use Prim.Native.Nat.{ℕ, zero, suc, _*_}
 use native.Mathlib.Omega.{arith}
 use lib.ListN.{length, take, drop, take-append-drop}
@@ -30,7 +30,7 @@ use Rattle.session.specs.declared.Stage.the-variants.{Before, Planned, Table, R
 use Rattle.session.specs.Unopened.{Stood, beforeLine, withRegion, lentOpened, startLine, plannedLine}
 use Rattle.session.specs.Opened.{partOf, joined, TableLine}
 use Rattle.session.specs.Lines.{LineAt}
-use Rattle.tracelaws.specs.Laws.{lineEvents, Leaves, OpenedBy, Reached, StandsAt, Stands, TraceLaws}
+use Rattle.tracelaws.specs.Laws.{lineEvents, Leaves, Answer, Answered, stoodAfter, historyOf, AreSteps, OpenedBy, Reached, StandsAt, Stands, TraceLaws}
 use Rattle.tracelaws.proofs.Tables.{is-open, leaves}
 use Rattle.tracelaws.proofs.Names.{own-names}
 
@@ -143,6 +143,21 @@ table-law x h k bytes n s s′ text z t =
     in
     subst (λ (y : Held). Leaves x h (saidRead bytes) (partOf k s) y text) (sym (ap (partOf k) (t .stood) ∙ back)) d
 
+lines-law : (x : Start) (h : List Event) (k : ℕ) (s : Stood) (more : List Answer) → Holds x h (s .counts) (partOf k s .lent) → Answered k s more
+    → Holds x (h ++ historyOf k s more) (stoodAfter s more .counts) (partOf k (stoodAfter s more) .lent) × AreSteps x h k s more
+unfolding Answered stoodAfter historyOf AreSteps
+lines-law x h k s [] z t = (subst (λ (g : List Event). Holds x g (s .counts) (partOf k s .lent)) (sym (append-nil h)) z, tt)
+lines-law x h k s (a ∷ more) z t =
+    let es = lineEvents (saidRead (a .bytes)) (partOf k s) in
+    let one = table-law x h k (a .bytes) (a .number) s (a .stood) (a .text) z (t .0) in
+    let rest = lines-law x (h ++ es) k (a .stood) more (part-counts k (a .stood) (one .holds)) (t .1) in (
+      subst (λ (g : List Event). Holds x g (stoodAfter (a .stood) more .counts) (partOf k (stoodAfter (a .stood) more) .lent)) (append-assoc h es (historyOf k (a .stood) more)) (rest .0),
+      (one .is-step, rest .1),
+    )
+  where
+    part-counts : (k : ℕ) (y : Stood) {g : List Event} → Holds x g (partOf k y .counts) (partOf k y .lent) → Holds x g (y .counts) (partOf k y .lent)
+    part-counts k y w = unfold partOf in w
+
 -- the stage stays
 stage-stands : (k : ℕ) (s s′ : Stood) (part : Held) → s′ ≡ joined k part s → Reached (partOf k s′ .counts) (partOf k s′ .lent) → Stands s′
 unfolding joined StandsAt partOf
@@ -172,6 +187,7 @@ trace-laws = record {
   line = λ bytes n s. line-law (s .stage) bytes n s;
   opened = opened-law;
   table = table-law;
+  lines = lines-law;
   is-open = λ c l i. is-open (i .start) (i .history) c l (i .holds);
   own-names = own-names;
 }

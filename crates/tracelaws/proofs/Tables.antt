@@ -32,7 +32,7 @@ use Rattle.hostfill.specs.MayFill.{mayFill, Open}
 use Rattle.session.specs.Host.{FillsIn}
 use Rattle.session.specs.Asking.{Held, namedIn, Still, Ran, Asked}
 use Rattle.session.specs.Table.{LooksAs, shorter, withPool, Fills, Answers}
-use Rattle.tracelaws.specs.Laws.{askedEvents, lineEvents, Prints, Leaves}
+use Rattle.tracelaws.specs.Laws.{askedEvents, lineEvents, IsStep, Leaves}
 use Rattle.tracelaws.proofs.Filling.{may-fill}
 
 -- the host may leave the pool as it is
@@ -46,18 +46,18 @@ module _ (x : Start) (h : List Event) where
 
   -- what is left by a line that is the events es, with a text
   abbrev LeavesBy : List Event → Held → List ℕ → Type 0
-  LeavesBy es held′ text = Holds x (h ++ es) (held′ .counts) (held′ .lent) × Prints x h es text
+  LeavesBy es held′ text = Holds x (h ++ es) (held′ .counts) (held′ .lent) × IsStep x h es held′ text
 
   module _ (held : Held) (z : Holds x h (held .counts) (held .lent)) where
     still : (held′ : Held) (text : List ℕ) → held′ ≡ held → LeavesBy [] held′ text
-    unfolding Prints
+    unfolding IsStep
     still held′ text e = (subst (λ (y : Held). Holds x (h ++ []) (y .counts) (y .lent)) (sym e) (subst (λ (g : List Event). Holds x g (held .counts) (held .lent)) (sym (append-nil h)) z), tt)
 
     ran : (c : Call) (held′ : Held) (text : List ℕ) → Ran c held held′ text → LeavesBy (event (held .lent .pool) (lengthsOf (held .lent)) (calls c) ∷ []) held′ text
-    unfolding MakesTo Prints
+    unfolding MakesTo IsStep
     ran c held′ text r =
         let n = held-laws .makes x h (held .counts) (held .lent) (calls c) (r .reply) (held′ .counts) (held′ .lent) z (r .called) in
-        (n .holds, r .prints ∙ ap replayText (n .reply))
+        (n .holds, (r .prints ∙ ap replayText (n .reply), n .exactly))
 
     asked : (a : Asks) (number : ℕ) (held′ : Held) (text : List ℕ) → Asked a number held held′ text → LeavesBy (askedEvents a held) held′ text
     unfolding Asked askedEvents
@@ -66,11 +66,11 @@ module _ (x : Start) (h : List Event) where
     asked Asks.Other number held′ text r = still held′ text (r .held)
 
     looked : (y : Lookup) (held′ : Held) (text : List ℕ) → held′ ≡ held → LooksAs y (held .counts) (held .lent) text → LeavesBy (lineEvents (Said.Look y) held) held′ text
-    unfolding MakesTo Prints lineEvents
+    unfolding MakesTo IsStep lineEvents
     looked y held′ text e r =
         let n = held-laws .makes x h (held .counts) (held .lent) (looks y) (r .reply) (held .counts) (held .lent) z (r .looked, refl, refl) in
         let d = event (held .lent .pool) (lengthsOf (held .lent)) (looks y) in
-        (subst (λ (w : Held). Holds x (h ++ (d ∷ [])) (w .counts) (w .lent)) (sym e) (n .holds), r .prints ∙ ap replayText (n .reply))
+        (subst (λ (w : Held). Holds x (h ++ (d ∷ [])) (w .counts) (w .lent)) (sym e) (n .holds), (r .prints ∙ ap replayText (n .reply), ap (λ (w : Held). stateIn (w .counts) (w .lent)) e ∙ n .exactly))
 
     -- `len`: the free stack has a word at least, so that without its last it has another length
     abbrev short : Lent
@@ -88,7 +88,7 @@ module _ (x : Start) (h : List Event) where
     another e = omega (arith, some-word, length-take-le (length (held .lent .free) - 1) (held .lent .free) (omega arith), ap (λ (a : Lengths). a .free) e)
 
     len : (held′ : Held) (text : List ℕ) → held′ ≡ held → LooksAs Lookup.WritesLive (held .counts) short text → LeavesBy (lineEvents Said.Len held) held′ text
-    unfolding MakesTo Prints lineEvents shorter
+    unfolding MakesTo IsStep lineEvents shorter
     len held′ text e r =
         let u : Turn =
         record { leaves = held .lent .pool; made = looks Lookup.WritesLive; lent = short; reply = r .reply; counts-left = held .counts; left = short; counts = held .counts; held = held .lent }
@@ -102,7 +102,7 @@ module _ (x : Start) (h : List Event) where
         } in
         let n = held-laws .turn x h (held .counts) (held .lent) u z k in
         let shortly = event (held .lent .pool) (lengthsOf short) (looks Lookup.WritesLive) in
-        (subst (λ (w : Held). Holds x (h ++ (shortly ∷ [])) (w .counts) (w .lent)) (sym e) (n .holds), r .prints ∙ ap replayText (n .reply))
+        (subst (λ (w : Held). Holds x (h ++ (shortly ∷ [])) (w .counts) (w .lent)) (sym e) (n .holds), (r .prints ∙ ap replayText (n .reply), ap (λ (w : Held). stateIn (w .counts) (w .lent)) e ∙ n .exactly))
 
     -- `fill`: the host writes where it may, or nothing
     filled-so : (b at n seed : ℕ) (may : Bool) → may ≡ mayFill (stateIn (held .counts) (held .lent)) b at n
@@ -112,7 +112,7 @@ module _ (x : Start) (h : List Event) where
     filled-so b at n seed false e = may-stay (held .counts) (held .lent)
 
     fills : (b at n seed number : ℕ) (held′ : Held) (text : List ℕ) → Fills b at n seed number held held′ text → LeavesBy [] held′ text
-    unfolding Prints withPool
+    unfolding IsStep withPool
     fills b at n seed number held′ text f =
         let m = filled-so b at n seed (f .1 .may) (f .1 .may-is (held .counts) (held .lent .free) (held .lent .ready) (is-open (held .counts) (held .lent) z)) in
         let written = held-laws .writes x h (held .counts) (held .lent) (held′ .lent .pool) z (subst (HostMay (stateIn (held .counts) (held .lent))) (sym (f .1 .pool-is)) m) in
@@ -132,4 +132,4 @@ module _ (x : Start) (h : List Event) where
     answers Said.Bad number held′ text a = still held′ text (a .held)
 
     pub leaves : (said : Said) (number : ℕ) (held′ : Held) (text : List ℕ) → Answers said number held held′ text → Leaves x h said held held′ text
-    leaves said number held′ text a = let z′ = answers said number held′ text a in record { holds = z′ .0; prints = z′ .1 }
+    leaves said number held′ text a = let z′ = answers said number held′ text a in record { holds = z′ .0; is-step = z′ .1 }

@@ -1,5 +1,5 @@
--- What holds of a trace from its first line on: what is lent to an open table is a table that calls have left, the history since `start` that its
--- lines are (optable's Held: Holds). So what `CallsTo`, `LooksTo`, `FillsIn` and `ListsIn` say of such tables is promised of every line, and what a
+-- What holds of a trace from its first line on: what is lent to an open table is a table that calls have left. `start` begins a history (opened), and
+-- the lines since are that history (lines; optable's Held: Holds). So what `CallsTo`, `LooksTo`, `FillsIn` and `ListsIn` say of such tables is promised of every line, and what a
 -- line of calls prints is the step's reply after that history. Proved in proofs/Laws.antt (trace-laws).
 use mathlib.Core.Path.{_≡_}
 use mathlib.Core.List.{List, [], _∷_, _++_}
@@ -8,7 +8,7 @@ use Rattle.model.specs.declared.{Opening.Opening, Counts.Counts, Lookup.Lookup}
 use Rattle.model.specs.declared.Lookup.the-variants as Lookup
 use Rattle.model.specs.Memory.{Lent, lengthsOf, stateIn}
 use Rattle.step.specs.Questions.{regionAt}
-use Rattle.step.specs.Run.{Made.calls, Made.looks, Event, Start, openedBy, after, replyTo}
+use Rattle.step.specs.Run.{Made.calls, Made.looks, Event, Start, openedBy, next, after, replyTo}
 use Rattle.optable.specs.Held.{Holds, event, Begins}
 use Rattle.hostfill.specs.MayFill.{Open}
 use Rattle.parser.specs.declared.{forms.Said.Said, requests.Asks.Asks}
@@ -47,15 +47,45 @@ lineEvents (Said.Sum b at n) h = []
 lineEvents Said.Rows h = []
 lineEvents Said.Bad h = []
 
--- the text of a line that is an event: that of the step's reply
-unfoldable pub Prints : Start → List Event → List Event → List ℕ → Type 0
-Prints x h [] text = Unit {0}
-Prints x h (e ∷ es) text = text ≡ replayText (replyTo (after x h) e)
+-- a line that is an event prints the text of the step's reply, and what is held then is the step's table, to the byte
+unfoldable pub IsStep : Start → List Event → List Event → Held → List ℕ → Type 0
+IsStep x h [] held′ text = Unit {0}
+IsStep x h (e ∷ es) held′ text = (text ≡ replayText (replyTo (after x h) e)) × (stateIn (held′ .counts) (held′ .lent) ≡ next (after x h) e)
 
 -- after a line the history that it is has been added, and is in what is held
 pub record Leaves (x : Start) (h : List Event) (said : Said) (held held′ : Held) (text : List ℕ) : Type 0 where
   pub holds : Holds x (h ++ lineEvents said held) (held′ .counts) (held′ .lent)
-  pub prints : Prints x h (lineEvents said held) text
+  pub is-step : IsStep x h (lineEvents said held) held′ text
+
+-- ---- lists of lines
+
+-- a line of an open table, with its number, where the trace stands after it, and what was printed
+pub record Answer : Type 0 where
+  pub bytes : List ℕ
+  pub number : ℕ
+  pub stood : Stood
+  pub text : List ℕ
+
+unfoldable pub Answered : ℕ → Stood → List Answer → Type 0
+Answered k s [] = Unit {0}
+Answered k s (a ∷ more) = TableLine k (saidRead (a .bytes)) (a .number) s (a .stood) (a .text) × Answered k (a .stood) more
+
+-- where the trace stands after the last
+unfoldable pub stoodAfter : Stood → List Answer → Stood
+stoodAfter s [] = s
+stoodAfter s (a ∷ more) = stoodAfter (a .stood) more
+
+-- the history that they are
+unfoldable pub historyOf : ℕ → Stood → List Answer → List Event
+historyOf k s [] = []
+historyOf k s (a ∷ more) = lineEvents (saidRead (a .bytes)) (partOf k s) ++ historyOf k (a .stood) more
+
+-- each of them was so
+unfoldable pub AreSteps : Start → List Event → ℕ → Stood → List Answer → Type 0
+AreSteps x h k s [] = Unit {0}
+AreSteps x h k s (a ∷ more) =
+    let es = lineEvents (saidRead (a .bytes)) (partOf k s) in
+    IsStep x h es (partOf k (a .stood)) (a .text) × AreSteps x (h ++ es) k (a .stood) more
 
 -- ---- where a trace stands
 
@@ -92,6 +122,9 @@ pub record TraceLaws : Type 0 where
   pub table : (x : Start) (h : List Event) (k : ℕ) (bytes : List ℕ) (n : ℕ) (s s′ : Stood) (text : List ℕ)
       → Holds x h (s .counts) (partOf k s .lent) → TableLine k (saidRead bytes) n s s′ text
       → Leaves x h (saidRead bytes) (partOf k s) (partOf k s′) text
+  -- and any list of them
+  pub lines : (x : Start) (h : List Event) (k : ℕ) (s : Stood) (more : List Answer) → Holds x h (s .counts) (partOf k s .lent) → Answered k s more
+      → Holds x (h ++ historyOf k s more) (stoodAfter s more .counts) (partOf k (stoodAfter s more) .lent) × AreSteps x h k s more
   -- such a table is open: `fill` and `rows` are promised values of it (session's Host)
   pub is-open : (c : Counts) (l : Lent) → Reached c l → Open c l
   -- `w` and `r`: "handle 0, with its own volume, id and generation" names what the table has there
