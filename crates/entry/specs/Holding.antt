@@ -50,7 +50,8 @@ partsWith p pool = partsOf (p .counts) (p .rows) (p .store) (p .free) (p .ready)
 
 -- ---- one call of an export
 
--- what an export asks for: a call or a lookup; nothing, where its code names nothing; an opening, which is refused
+-- what an export asks for: a call or a lookup; nothing, where its code names nothing; an opening, which is refused (one that is admitted begins
+-- another history)
 pub data Export : Type 0 where
   makes : Made → Export
   nameless : Export

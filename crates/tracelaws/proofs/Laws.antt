@@ -30,7 +30,7 @@ use Rattle.session.specs.declared.Stage.the-variants.{Before, Planned, Table, R
 use Rattle.session.specs.Unopened.{Stood, beforeLine, withRegion, lentOpened, startLine, plannedLine}
 use Rattle.session.specs.Opened.{partOf, joined, TableLine}
 use Rattle.session.specs.Lines.{LineAt}
-use Rattle.tracelaws.specs.Laws.{lineEvents, Leaves, Answer, Answered, stoodAfter, historyOf, AreSteps, OpenedBy, Reached, StandsAt, Stands, TraceLaws}
+use Rattle.tracelaws.specs.Laws.{lineEvents, Leaves, Answer, Answered, stoodAfter, lineHistory, AreSteps, OpenedBy, Reached, StandsAt, Stands, TraceLaws}
 use Rattle.tracelaws.proofs.Tables.{is-open, leaves}
 use Rattle.tracelaws.proofs.Names.{own-names}
 
@@ -144,14 +144,14 @@ table-law x h k bytes n s s′ text z t =
     subst (λ (y : Held). Leaves x h (saidRead bytes) (partOf k s) y text) (sym (ap (partOf k) (t .stood) ∙ back)) d
 
 lines-law : (x : Start) (h : List Event) (k : ℕ) (s : Stood) (more : List Answer) → Holds x h (s .counts) (partOf k s .lent) → Answered k s more
-    → Holds x (h ++ historyOf k s more) (stoodAfter s more .counts) (partOf k (stoodAfter s more) .lent) × AreSteps x h k s more
-unfolding Answered stoodAfter historyOf AreSteps
+    → Holds x (h ++ lineHistory k s more) (stoodAfter s more .counts) (partOf k (stoodAfter s more) .lent) × AreSteps x h k s more
+unfolding Answered stoodAfter lineHistory AreSteps
 lines-law x h k s [] z t = (subst (λ (g : List Event). Holds x g (s .counts) (partOf k s .lent)) (sym (append-nil h)) z, tt)
 lines-law x h k s (a ∷ more) z t =
     let es = lineEvents (saidRead (a .bytes)) (partOf k s) in
     let one = table-law x h k (a .bytes) (a .number) s (a .stood) (a .text) z (t .0) in
     let rest = lines-law x (h ++ es) k (a .stood) more (part-counts k (a .stood) (one .holds)) (t .1) in (
-      subst (λ (g : List Event). Holds x g (stoodAfter (a .stood) more .counts) (partOf k (stoodAfter (a .stood) more) .lent)) (append-assoc h es (historyOf k (a .stood) more)) (rest .0),
+      subst (λ (g : List Event). Holds x g (stoodAfter (a .stood) more .counts) (partOf k (stoodAfter (a .stood) more) .lent)) (append-assoc h es (lineHistory k (a .stood) more)) (rest .0),
       (one .is-step, rest .1),
     )
   where

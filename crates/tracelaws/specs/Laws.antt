@@ -76,9 +76,9 @@ stoodAfter s [] = s
 stoodAfter s (a ∷ more) = stoodAfter (a .stood) more
 
 -- the history that they are
-unfoldable pub historyOf : ℕ → Stood → List Answer → List Event
-historyOf k s [] = []
-historyOf k s (a ∷ more) = lineEvents (saidRead (a .bytes)) (partOf k s) ++ historyOf k (a .stood) more
+unfoldable pub lineHistory : ℕ → Stood → List Answer → List Event
+lineHistory k s [] = []
+lineHistory k s (a ∷ more) = lineEvents (saidRead (a .bytes)) (partOf k s) ++ lineHistory k (a .stood) more
 
 -- each of them was so
 unfoldable pub AreSteps : Start → List Event → ℕ → Stood → List Answer → Type 0
@@ -124,7 +124,7 @@ pub record TraceLaws : Type 0 where
       → Leaves x h (saidRead bytes) (partOf k s) (partOf k s′) text
   -- and any list of them
   pub lines : (x : Start) (h : List Event) (k : ℕ) (s : Stood) (more : List Answer) → Holds x h (s .counts) (partOf k s .lent) → Answered k s more
-      → Holds x (h ++ historyOf k s more) (stoodAfter s more .counts) (partOf k (stoodAfter s more) .lent) × AreSteps x h k s more
+      → Holds x (h ++ lineHistory k s more) (stoodAfter s more .counts) (partOf k (stoodAfter s more) .lent) × AreSteps x h k s more
   -- such a table is open: `fill` and `rows` are promised values of it (session's Host)
   pub is-open : (c : Counts) (l : Lent) → Reached c l → Open c l
   -- `w` and `r`: "handle 0, with its own volume, id and generation" names what the table has there
