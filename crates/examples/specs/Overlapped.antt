@@ -1,4 +1,4 @@
--- What is said of a write counted as kept (crate step, specs/Kept.antt) is not empty; where it says nothing it can fail, and it ends at the completion.
+-- What is said of a write counted as kept (crate step, specs/Kept.antt) is not empty; where it says nothing it can fail; it ends at the completion.
 -- The opening and the pool are those of crate step's Orders.antt. The write of 512 to 1,536 from buffer 0 (`plain`), under the queue tag 0, is
 -- submitted first. It has two pieces: bytes 0 to 512, all 5, go to 1,536, and bytes 512 to 1,024, all 6, to 8,192. Another write, under the queue
 -- tag 1, has one piece, of 512 bytes from buffer 1, all 9.

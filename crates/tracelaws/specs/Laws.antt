@@ -1,6 +1,6 @@
--- What holds of a trace from its first line on: what is lent to an open table is a table that calls have left. `start` begins a history (opened), and
--- the lines since are that history (lines; optable's Held: Holds). So what `CallsTo`, `LooksTo`, `FillsIn` and `ListsIn` say of such tables is promised of every line, and what a
--- line of calls prints is the step's reply after that history. Proved in proofs/Laws.antt (trace-laws).
+-- What holds of a trace from its first line on: what is lent to an open table is a table that calls have left. `start` begins a history (opened),
+-- and the lines since are that history (lines; optable's Held: Holds). So what `CallsTo`, `LooksTo`, `FillsIn` and `ListsIn` say of such tables is
+-- promised of every line, and what a line of calls prints is the step's reply after that history. Proved in proofs/Laws.antt (trace-laws).
 use mathlib.Core.Path.{_≡_}
 use mathlib.Core.List.{List, [], _∷_, _++_}
 use Prim.Native.Nat.{ℕ}
