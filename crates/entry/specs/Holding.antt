@@ -3,11 +3,11 @@
 -- the history. `table_turn` is lent no table: what it does to bytes of the pool is the host's own writing. Proved in proofs/Holding.antt
 -- (asked-returns, host-holds-words, demand3-in-words).
 use mathlib.Core.Path.{_≡_}
-use mathlib.Core.Logic.{_≢_, _⊎_}
+use mathlib.Core.Logic.{_≢_}
 use mathlib.Core.Bool.{Bool, true, false}
 use mathlib.Core.Option.{Option, none, some}
 use mathlib.Core.List.{List, [], _∷_, _++_}
-use Prim.Native.Nat.{ℕ, _+_, _/_, _%_, _<_}
+use Prim.Native.Nat.{ℕ, _+_, _/_, _%_}
 use lib.ListN.{length, take, drop}
 use lib.Dec.{eqb}
 use Rattle.layout.specs.Pick.{pick}
@@ -16,15 +16,14 @@ use Rattle.completion.specs.declared.Completion.{Completion}
 use Rattle.completion.specs.declared.Reply.the-variants as Reply
 use Rattle.model.specs.declared.{Opening.Opening, Lengths.Lengths, Call.Call}
 use Rattle.model.specs.State.{State, liveRows}
-use Rattle.model.specs.Opening.{HEAD}
-use Rattle.model.specs.Memory.{Lent, lengthsIn, stateIn}
+use Rattle.model.specs.Memory.{Lent, stateIn}
 use Rattle.posix.specs.Posix.{Card}
 use Rattle.step.specs.Step.{rowAt, bytesAt, isLive, eqLengths}
 use Rattle.step.specs.Run.{Made, Made.calls, Made.looks, Event, leave, next, Start, openedBy, after, replyTo}
 use Rattle.step.specs.Lists.{times, brought, isBrought, Completed, withBytes, takings, cardAfter, HostMay, tagAt}
 use Rattle.step.specs.Alone.{Course.completed}
 use Rattle.step.specs.Demand3.{aloneAt, Supposed}
-use Rattle.optable.specs.Held.{Holds, Begins, event}
+use Rattle.optable.specs.Held.{Holds, OwnWords, Begins, event}
 use Rattle.abi.specs.ReplyWords.{replyWords, unknownWords}
 use Rattle.entry.specs.WordCalls.{countsIn, lentIn}
 use Rattle.entry.specs.WholeRows.{Whole}
@@ -97,10 +96,9 @@ lengthsLent p =
       pool = length (p .pool);
     }
 
--- What is lent, of what is held (optable's Held: Lends). Which length is another is told by the store's own words 13 to 18: these are the held
--- store's, or fewer than 48 words are lent, which is another length whatever they are. In the opening's lengths the host lends all that it holds.
+-- what is lent, of what is held, as of records (optable's Held: Lends): in the opening's lengths all that is held
 pub record LendsWords (p lent : Parts) : Type 0 where
-  pub words : (length (lent .store) < HEAD) ⊎ (lengthsIn (lent .store) ≡ lengthsIn (p .store))
+  pub words : OwnWords (p .store) (lent .store)
   pub all : wordLengths lent ≡ wordLengths p → lent ≡ p
 
 -- one call of an export: the pool as the host leaves it, what is asked and lent, what is left of that and in `out`, and what the host holds then

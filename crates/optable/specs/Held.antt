@@ -40,11 +40,14 @@ unfoldable pub MakesTo : Made → Counts → Lent → Reply → Counts → Lent 
 MakesTo (calls call) c l r c′ l′ = CallsTo call c l r c′ l′
 MakesTo (looks x) c l r c′ l′ = LooksTo x c l r × (c′ ≡ c) × (l′ ≡ l)
 
--- What is lent to it, of what is held. Which length is another is told by the store's own words 13 to 18: these are the held store's, or fewer than
--- 48 words are lent, which is another length whatever they are. A host that lends others there has changed row memory. In the opening's lengths it
--- lends all that it holds.
+-- Which length is another is told by the store's own words 13 to 18: those lent are the held store's, or fewer than 48 words are lent, which is
+-- another length whatever they are. A host that lends others there has changed row memory.
+abbrev pub OwnWords : List ℕ → List ℕ → Type 0
+OwnWords held lent = (length lent < HEAD) ⊎ (lengthsIn lent ≡ lengthsIn held)
+
+-- what is lent to it, of what is held: in the opening's lengths all that is held
 pub record Lends (l lent : Lent) : Type 0 where
-  pub words : (length (lent .store) < HEAD) ⊎ (lengthsIn (lent .store) ≡ lengthsIn (l .store))
+  pub words : OwnWords (l .store) (lent .store)
   pub all : lengthsOf lent ≡ lengthsOf l → lent ≡ l
 
 -- one call or lookup of a host: the pool as the host leaves it, what is made and lent, the reply, the counts and the parts lent as they are
