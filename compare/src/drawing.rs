@@ -1,8 +1,8 @@
-//! Pseudo-random traces in document 01's domain: an opening, then calls that follow the Rust's own replies, so that
-//! every answer and flush result names a tag that awaits it.
+//! Pseudo-random traces in the domain of comparison, or with writes off the block besides: an opening, then calls that
+//! follow the Rust's own replies, so that every answer and flush result names a tag that awaits it.
 
 use crate::card::{Refusal, UnderWay};
-use crate::driver::Driver;
+use crate::driver::{Driver, Reach};
 use crate::error::{FirstCause, Op, OsError};
 use crate::lines::{Answer, Call, Flush, Form, Open, Place, Region, Submission, call_text, open_text, region_text};
 use crate::opening::Opening;
@@ -83,6 +83,7 @@ struct Drawing {
     dice: Dice,
     mood: Mood,
     driver: Driver,
+    reach: Reach,
     lines: Vec<String>,
 }
 
@@ -156,15 +157,15 @@ fn opening(d: &mut Dice) -> Opening {
 }
 
 impl Drawing {
-    fn new(seed: u64) -> Self {
+    fn new(seed: u64, reach: Reach) -> Self {
         let mut dice = Dice(seed);
         let mood = Mood::draw(&mut dice);
         let opening = opening(&mut dice);
         let mut lines = vec![format!("# drawn from seed {seed}"), open_text(&opening.open)];
         lines.extend(opening.regions.iter().map(region_text));
         lines.push("start".to_owned());
-        let driver = Driver::new(opening, false).expect("the drawn opening keeps the rules");
-        Self { dice, mood, driver, lines }
+        let driver = Driver::new(opening, reach).expect("the drawn opening keeps the rules");
+        Self { dice, mood, driver, reach, lines }
     }
 
     /// Makes a call and keeps its line; the refusal of its piece follows at once.
@@ -248,6 +249,8 @@ impl Drawing {
         let place = self.named(handle);
         let (position, length) = self.stretch(&region);
         let (write, durable) = (self.dice.percent(55), self.dice.percent(self.mood.durable));
+        let off = position % self.driver.opening().open.block;
+        let position = if write && self.reach == Reach::Domain { position - off } else { position };
         let own = self.own(&place);
         let (buffer, length) = match !write && !own && self.dice.percent(30) {
             // Turned away before the buffer is asked after, whoever holds it.
@@ -419,8 +422,8 @@ impl Drawing {
 }
 
 /// The trace of a seed.
-pub fn draw(seed: u64) -> String {
-    let mut drawing = Drawing::new(seed);
+pub fn draw(seed: u64, reach: Reach) -> String {
+    let mut drawing = Drawing::new(seed, reach);
     for _ in 0..drawing.dice.within(30, 600) {
         drawing.step();
     }

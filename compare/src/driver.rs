@@ -33,6 +33,18 @@ pub enum Stop {
 
 use Stop::{Bad, Outside};
 
+/// What the Rust gets besides the domain of comparison.
+#[derive(Debug, Clone, Copy, PartialEq)]
+pub enum Reach {
+    /// Nothing: such a line is outside.
+    Domain,
+    /// A write off the block, handed over with a length off the block: `check` tests no write's offset, but says 9 to its
+    /// length, at the same place among its questions and with the same context.
+    OffBlock,
+    /// Writes off the block, answers that document 01 turns away by 14 to 16, and runs that continue, all as they are.
+    Beyond,
+}
+
 /// A submitter and the host above it.
 pub struct Driver {
     submitter: Submitter<Card>,
@@ -49,17 +61,16 @@ pub struct Driver {
     accepted: u64,
     /// The tag of a refused piece and the reply its line gets.
     refused: Option<(u64, String)>,
-    /// Whether the Rust also gets answers that document 01 turns away by 14 to 16, and runs that continue.
-    beyond: bool,
+    reach: Reach,
 }
 
 impl Driver {
     /// Opens a table; the opening keeps document 01's rules.
-    pub fn new(opening: Opening, beyond: bool) -> Result<Self, Stop> {
+    pub fn new(opening: Opening, reach: Reach) -> Result<Self, Stop> {
         if !opening.keeps_rules() {
             return Err(Outside("the opening breaks a rule (13)"));
         }
-        if opening.regions.iter().any(|r| r.continues()) && !beyond {
+        if opening.regions.iter().any(|r| r.continues()) && reach != Reach::Beyond {
             return Err(Outside("a run that continues the one before on the card is joined to it"));
         }
         let (store, regions) = build(&opening);
@@ -69,7 +80,7 @@ impl Driver {
         let take = |_| Some(submitter.take_buf(0).expect("the pool's own count"));
         let held = (0..opening.open.buffers).map(take).collect();
         let (flushing, refused) = (BTreeSet::new(), None);
-        Ok(Self { submitter, store, regions, opening, held, flushing, flushes: 0, accepted: 0, refused, beyond })
+        Ok(Self { submitter, store, regions, opening, held, flushing, flushes: 0, accepted: 0, refused, reach })
     }
 
     pub fn opening(&self) -> &Opening {
@@ -97,6 +108,10 @@ impl Driver {
     /// Whether a piece was refused whose refusal has not had its line.
     pub fn refusal_pending(&self) -> bool {
         self.refused.is_some()
+    }
+
+    fn beyond(&self) -> bool {
+        self.reach == Reach::Beyond
     }
 
     fn queue_mut(&mut self) -> &mut CardQueue {
@@ -168,7 +183,22 @@ impl Driver {
         Some(given)
     }
 
+    /// A submission as the Rust gets it: document 02's P6 turns a write off the block away, which `check` lets pass.
+    fn on_block(&self, s: &Submission) -> Result<Submission, Stop> {
+        let (block, capacity) = (self.opening.open.block, self.opening.open.capacity);
+        let passes = s.write && !s.position.is_multiple_of(block);
+        match self.reach {
+            Reach::Domain if passes => Err(Outside("a write off the block, which the Rust lets pass (P6)")),
+            // One byte less is off the block, not empty, and within the capacity as before.
+            Reach::OffBlock if passes && (1..=capacity).contains(&s.length) && s.length.is_multiple_of(block) => {
+                Ok(Submission { length: s.length - 1, ..s.clone() })
+            }
+            _ => Ok(s.clone()),
+        }
+    }
+
     fn submit(&mut self, s: &Submission, refusal: Option<Refusal>) -> Result<String, Stop> {
+        let s = &self.on_block(s)?;
         let place = self.place(s);
         let region = self.region(place.handle)?.clone();
         let held = self.holds(s.buffer);
@@ -245,7 +275,7 @@ impl Driver {
             Form::Count(count) => Ok(self.count(a.qtag, count)?),
             Form::Error(raw) => Err(raw),
         };
-        if !self.queue().under_way.contains_key(&a.qtag) && !self.beyond {
+        if !self.queue().under_way.contains_key(&a.qtag) && !self.beyond() {
             return Err(Outside("the tag awaits no piece (14 or 15)"));
         }
         self.store.inner.domain.set_issued(self.flushes);
@@ -260,7 +290,7 @@ impl Driver {
     fn count(&self, qtag: u64, count: u64) -> Result<usize, Stop> {
         let piece = self.queue().under_way.get(&qtag).map(|p| p.buf.len() as u64);
         match piece {
-            Some(most) if count > most && !self.beyond => Err(Outside("a count above the piece (16)")),
+            Some(most) if count > most && !self.beyond() => Err(Outside("a count above the piece (16)")),
             _ => usize::try_from(count).map_err(|_| Outside("a count wider than a length")),
         }
     }
@@ -290,7 +320,7 @@ impl Driver {
                 Ok(format!("flush {tag} {need}"))
             }
             (None, [], 1) => Ok(format!("done {qtag}")),
-            (None, [], 0) if self.beyond => Ok("nothing".to_owned()),
+            (None, [], 0) if self.beyond() => Ok("nothing".to_owned()),
             _ => Err(Outside("the Rust did not do one thing")),
         }
     }
@@ -305,7 +335,7 @@ impl Driver {
             }
         };
         if !self.flushing.remove(&qtag) {
-            if !self.beyond {
+            if !self.beyond() {
                 return Err(Outside("the tag awaits no flush (14 or 15)"));
             }
             // A flush outcome that nobody asked for is looked at only when the table counts one more.

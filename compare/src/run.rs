@@ -1,7 +1,7 @@
 //! A whole trace: its lines in order, each with its reply.
 
 use crate::card::Refusal;
-use crate::driver::{Driver, Stop};
+use crate::driver::{Driver, Reach, Stop};
 use crate::lines::{Answer, Call, Form, Line, read};
 use crate::opening::Opening;
 
@@ -54,7 +54,7 @@ fn refusal_ahead(rest: &[Line]) -> Option<Refusal> {
 }
 
 /// One line; a reply or none, or why there is none.
-fn step(state: &mut State, line: &Line, rest: &[Line], beyond: bool) -> Result<Option<String>, Stop> {
+fn step(state: &mut State, line: &Line, rest: &[Line], reach: Reach) -> Result<Option<String>, Stop> {
     match (&mut *state, line) {
         (_, Line::Comment) => Ok(None),
         (State::Before, Line::Open(open)) => {
@@ -66,7 +66,7 @@ fn step(state: &mut State, line: &Line, rest: &[Line], beyond: bool) -> Result<O
             Ok(None)
         }
         (State::Opening(opening), Line::Start) => {
-            *state = State::Started(Box::new(Driver::new(opening.clone(), beyond)?));
+            *state = State::Started(Box::new(Driver::new(opening.clone(), reach)?));
             Ok(Some("ok".to_owned()))
         }
         (State::Started(driver), Line::Call(call)) => driver.call(call, refusal_ahead(rest)).map(Some),
@@ -74,15 +74,14 @@ fn step(state: &mut State, line: &Line, rest: &[Line], beyond: bool) -> Result<O
     }
 }
 
-/// Runs a trace. With `beyond`, answers that document 01 turns away by 14 to 16, and runs that continue on the card, go
-/// to the Rust as they are.
-pub fn run(input: &[u8], beyond: bool) -> Run {
+/// Runs a trace, of which the Rust gets the domain of comparison and what `reach` adds.
+pub fn run(input: &[u8], reach: Reach) -> Run {
     let lines = cut(input);
     let mut state = State::Before;
     let mut run = Run::default();
     for (at, line) in lines.iter().enumerate() {
         let number = at + 1;
-        match step(&mut state, line, &lines[number..], beyond) {
+        match step(&mut state, line, &lines[number..], reach) {
             Ok(None) => {}
             Ok(Some(reply)) => run.replies.push((number, reply)),
             Err(Stop::Bad) => run.replies.push((number, format!("bad {number}"))),

@@ -5,6 +5,7 @@ use std::path::{Path, PathBuf};
 use std::process::{Command, ExitCode, Stdio};
 
 use compare::drawing::draw;
+use compare::driver::Reach;
 use compare::run::{Run, run};
 
 /// The other program's replies to the trace in a file.
@@ -32,9 +33,9 @@ fn difference(rust: &Run, other: &str) -> Option<(usize, String, String)> {
 }
 
 /// One trace: how many replies agree, or what differs.
-fn one(program: &Path, seed: u64, kept: &Path) -> Result<usize, String> {
-    let text = draw(seed);
-    let rust = run(text.as_bytes(), false);
+fn one(program: &Path, seed: u64, reach: Reach, kept: &Path) -> Result<usize, String> {
+    let text = draw(seed, reach);
+    let rust = run(text.as_bytes(), reach);
     if let Some((number, why)) = rust.outside {
         return Err(format!("seed {seed}, line {number}: drawn outside the domain: {why}"));
     }
@@ -53,17 +54,18 @@ fn one(program: &Path, seed: u64, kept: &Path) -> Result<usize, String> {
 }
 
 fn main() -> ExitCode {
-    let words: Vec<String> = std::env::args().skip(1).collect();
+    let (flags, words): (Vec<String>, Vec<String>) = std::env::args().skip(1).partition(|word| word == "--off-block");
+    let reach = if flags.is_empty() { Reach::Domain } else { Reach::OffBlock };
     let number = |at: usize| words.get(at).and_then(|text| text.parse::<u64>().ok());
     let (Some(program), Some(count)) = (words.first().map(PathBuf::from), number(1)) else {
-        eprintln!("compare REPLAY COUNT [FIRST SEED]");
+        eprintln!("compare [--off-block] REPLAY COUNT [FIRST SEED]");
         return ExitCode::FAILURE;
     };
     let first = number(2).unwrap_or(1);
     let kept = PathBuf::from("difference.kept");
     let mut lines = 0;
     for seed in first..first + count {
-        match one(&program, seed, &kept) {
+        match one(&program, seed, reach, &kept) {
             Ok(agreed) => lines += agreed,
             Err(text) => {
                 println!("{text}");

@@ -2,11 +2,13 @@
 
 use std::process::ExitCode;
 
+use compare::driver::Reach;
+
 fn main() -> ExitCode {
     let seed = std::env::args().nth(1).and_then(|text| text.parse().ok());
     match seed {
         Some(seed) => {
-            print!("{}", compare::drawing::draw(seed));
+            print!("{}", compare::drawing::draw(seed, Reach::Domain));
             ExitCode::SUCCESS
         }
         None => {

@@ -4,11 +4,17 @@
 use std::io::{Read, Write};
 use std::process::ExitCode;
 
+use compare::driver::Reach;
+
 fn main() -> ExitCode {
-    let beyond = std::env::args().nth(1).as_deref() == Some("--beyond");
+    let reach = match std::env::args().nth(1).as_deref() {
+        Some("--beyond") => Reach::Beyond,
+        Some("--off-block") => Reach::OffBlock,
+        _ => Reach::Domain,
+    };
     let mut input = Vec::new();
     std::io::stdin().read_to_end(&mut input).expect("standard input");
-    let run = compare::run::run(&input, beyond);
+    let run = compare::run::run(&input, reach);
     std::io::stdout().write_all(run.text().as_bytes()).expect("standard output");
     match run.outside {
         None => ExitCode::SUCCESS,

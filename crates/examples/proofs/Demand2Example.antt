@@ -22,7 +22,7 @@ use Rattle.model.specs.declared.Lookup.the-variants.{Mark as MarkNow}
 use Rattle.model.specs.State.{State, freed, upFrom}
 use Rattle.model.specs.Opening.{atFirst, opened, planIn, plansIn}
 use Rattle.step.specs.Questions.{ask, firstNo, handleNamesRegion, bufferInPool, isHost, heldAt, hostHoldsBuffer, roomInTable, lifetimeLeft, gateOpen, storeWritable, unpoisoned}
-use Rattle.step.specs.Questions.{regionWritable, volumeAndRegionMatch, generationMatches, lengthAbove0, writeOnBlock, readOnBlock, aligned, withinData, regionAt}
+use Rattle.step.specs.Questions.{regionWritable, volumeAndRegionMatch, generationMatches, lengthAbove0, aligned, withinData, regionAt}
 use Rattle.step.specs.Questions.{writeQuestions, readQuestions}
 use Rattle.step.specs.Rules.{opOf, firstOf, lastOf, rangeOf, pieceOf, pieceLength, Input, Input.answered, bufferAs, errorOf, turnedBack, isWritten, causeOf, readOutcome, readLength, ticketOf, writtenAs, lastPiece, abovePiece, isRefusal, firstRefused, isWhole, goesOn, splitAfter, pieceAnswered, flushEnds, answerRules, flushRules, rules}
 use Rattle.step.specs.Step.{queueTag, topOf, rowAt, verdictOf, writeVerdict, readVerdict, durableAs, claimedBy, oneMore, accepted, submitted, rowOf, generationOf, isLive, names, bytesAt, raised, awaitsNow, oneLess, keptBy, poisonWith}
@@ -109,7 +109,7 @@ unfolding quietly ServedAll figuresOpening figuresPlan figuresLengths openedBy p
     rules answerRules flushRules pieceAnswered abovePiece firstRefused isRefusal isWhole goesOn splitAfter lastPiece turnedBack isWritten readOutcome readLength bufferAs writtenAs flushEnds
     pieceOf pieceLength firstOf lastOf rangeOf opOf errorOf causeOf ticketOf turned stretch withStretch
     ask firstNo handleNamesRegion bufferInPool isHost heldAt hostHoldsBuffer roomInTable lifetimeLeft gateOpen storeWritable unpoisoned
-    regionWritable volumeAndRegionMatch generationMatches lengthAbove0 writeOnBlock readOnBlock aligned withinData regionAt writeQuestions readQuestions
+    regionWritable volumeAndRegionMatch generationMatches lengthAbove0 aligned withinData regionAt writeQuestions readQuestions
     planIn plansIn atFirst opened freed upFrom runsIn mapIn spanFrom runOf runEnd runLeft place pieceSize pick onBlock
     brought broughtBy tagIn tagGiven isAway leftIn loose planAt BeingWritten WholeTo HoldsCard cardBy wroteBy takesWhole pread
 computed = record {

@@ -16,7 +16,7 @@ use Rattle.model.specs.State.{freed, upFrom, liveRows, awaiting, receiptFor}
 use Rattle.model.specs.Opening.{among, distinct, idsRule, runsOnBlock, blocksRule, mapRule, regionRule, eachRegion, allExtents, apartRule, withinRule, allTrue, numberRules, lengthRules, regionRules, admits, atFirst, opened, planIn, plansIn, listed, opens}
 use Rattle.model.specs.Memory.{over}
 use Rattle.step.specs.Questions.{ask, firstNo, handleNamesRegion, bufferInPool, isHost, heldAt, hostHoldsBuffer, roomInTable, lifetimeLeft, gateOpen, storeWritable, unpoisoned}
-use Rattle.step.specs.Questions.{regionWritable, volumeAndRegionMatch, generationMatches, lengthAbove0, writeOnBlock, readOnBlock, aligned, withinData, regionAt}
+use Rattle.step.specs.Questions.{regionWritable, volumeAndRegionMatch, generationMatches, lengthAbove0, aligned, withinData, regionAt}
 use Rattle.step.specs.Questions.{writeQuestions, readQuestions}
 use Rattle.step.specs.Rules.{opOf, firstOf, lastOf, rangeOf, pieceOf, pieceLength, Input.answered, Input.flushed, bufferAs, errorOf, turnedBack, isWritten, causeOf, failedRead, readOutcome, readLength, ticketOf, writtenAs, lastPiece, abovePiece, isRefusal, firstRefused, isWhole, goesOn, splitAfter, pieceAnswered, flushOutcome, flushEnds, answerRules, flushRules, rules, rangeStart, rangeEnd}
 use Rattle.step.specs.Step.{queueTag, topOf, rowAt, verdictOf, writeVerdict, readVerdict, durableAs, claimedBy, oneMore, accepted, submitted, rowOf, generationOf, isLive, names, bytesAt, raised, awaitsNow, oneLess, keptBy, poisonWith}
@@ -93,7 +93,7 @@ unfolding s table madeIn fronted leavesOf lengthsOf eventsOf replies inBuffer pe
     rules answerRules flushRules pieceAnswered abovePiece firstRefused isRefusal isWhole goesOn splitAfter lastPiece turnedBack isWritten readOutcome failedRead readLength bufferAs writtenAs flushOutcome flushEnds
     pieceOf pieceLength firstOf lastOf rangeOf opOf errorOf causeOf ticketOf receiptFor turned stretch withStretch over
     ask firstNo handleNamesRegion bufferInPool isHost heldAt hostHoldsBuffer roomInTable lifetimeLeft gateOpen storeWritable unpoisoned
-    regionWritable volumeAndRegionMatch generationMatches lengthAbove0 writeOnBlock readOnBlock aligned withinData regionAt writeQuestions readQuestions
+    regionWritable volumeAndRegionMatch generationMatches lengthAbove0 aligned withinData regionAt writeQuestions readQuestions
     planIn plansIn atFirst opened freed upFrom runsIn mapIn spanFrom runOf runEnd runLeft place pieceSize pick onBlock
     brought broughtBy tagIn isAway isBrought givenAs loose tagAt planAt isListed listedCall isWrite rangeStart rangeEnd
     writesIn anyWrites oldest markOf liveRows awaiting beside gets withBytes addedBy

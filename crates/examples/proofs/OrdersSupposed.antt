@@ -15,7 +15,7 @@ use Rattle.model.specs.declared.Call.the-variants.{Write, ReadPage, Take}
 use Rattle.model.specs.State.{State, freed, upFrom, liveRows, awaiting}
 use Rattle.model.specs.Opening.{atFirst, opened, planIn, plansIn, opens}
 use Rattle.step.specs.Questions.{ask, firstNo, handleNamesRegion, bufferInPool, isHost, heldAt, hostHoldsBuffer, roomInTable, lifetimeLeft, gateOpen, storeWritable, unpoisoned}
-use Rattle.step.specs.Questions.{regionWritable, volumeAndRegionMatch, generationMatches, lengthAbove0, writeOnBlock, readOnBlock, aligned, withinData, regionAt, writeQuestions, readQuestions}
+use Rattle.step.specs.Questions.{regionWritable, volumeAndRegionMatch, generationMatches, lengthAbove0, aligned, withinData, regionAt, writeQuestions, readQuestions}
 use Rattle.step.specs.Rules.{firstOf, lastOf, pieceOf, pieceLength, Input.answered, bufferAs, turnedBack, isWritten, readOutcome, readLength, ticketOf, writtenAs, lastPiece, abovePiece, isRefusal, firstRefused, isWhole, goesOn, splitAfter, pieceAnswered, answerRules, rules, rangeStart, rangeEnd}
 use Rattle.step.specs.Step.{durableAs, claimedBy, oneMore, accepted, rowOf, generationOf, isLive, names, bytesAt, raised, awaitsNow, oneLess, keptBy, poisonWith, going, freeing, planOf, asksFor}
 use Rattle.step.specs.Step.{completionOf, settled, fateOf, underTag, givenBack, taken, queueTag, topOf, rowAt, verdictOf, writeVerdict, readVerdict, submitted, eqLengths, called, step}
@@ -89,7 +89,7 @@ module _ (admitted : opens opening figuresPlan lengths ≡ true) (whole : length
       durableAs claimedBy oneMore accepted rowOf generationOf isLive names bytesAt raised awaitsNow oneLess keptBy poisonWith going freeing planOf asksFor
       completionOf settled fateOf underTag givenBack taken queueTag topOf rowAt verdictOf writeVerdict readVerdict submitted eqLengths called step
       ask firstNo handleNamesRegion bufferInPool isHost heldAt hostHoldsBuffer roomInTable lifetimeLeft gateOpen storeWritable unpoisoned
-      regionWritable volumeAndRegionMatch generationMatches lengthAbove0 writeOnBlock readOnBlock aligned withinData regionAt writeQuestions readQuestions
+      regionWritable volumeAndRegionMatch generationMatches lengthAbove0 aligned withinData regionAt writeQuestions readQuestions
       planIn plansIn atFirst opened freed upFrom liveRows awaiting runsIn mapIn spanFrom runOf runEnd runLeft place pieceSize pick onBlock
   computed = record {
     permitted-all = refl;

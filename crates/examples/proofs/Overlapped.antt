@@ -20,7 +20,7 @@ use Rattle.model.specs.declared.{Request.Request, Call.Call}
 use Rattle.model.specs.State.{freed, upFrom}
 use Rattle.model.specs.Opening.{atFirst, opened, planIn, plansIn, opens}
 use Rattle.step.specs.Questions.{ask, firstNo, handleNamesRegion, bufferInPool, isHost, heldAt, hostHoldsBuffer, roomInTable, lifetimeLeft, gateOpen, storeWritable, unpoisoned}
-use Rattle.step.specs.Questions.{regionWritable, volumeAndRegionMatch, generationMatches, lengthAbove0, writeOnBlock, aligned, withinData, regionAt, writeQuestions}
+use Rattle.step.specs.Questions.{regionWritable, volumeAndRegionMatch, generationMatches, lengthAbove0, aligned, withinData, regionAt, writeQuestions}
 use Rattle.step.specs.Rules.{firstOf, lastOf, pieceOf, pieceLength, bufferAs, turnedBack, isWritten, ticketOf, writtenAs, lastPiece, abovePiece, isRefusal, firstRefused, isWhole, goesOn, splitAfter, pieceAnswered, answerRules, rules}
 use Rattle.step.specs.Step.{durableAs, claimedBy, oneMore, accepted, rowOf, generationOf, isLive, names, bytesAt, raised, awaitsNow, oneLess, keptBy, poisonWith, going, freeing, planOf, asksFor}
 use Rattle.step.specs.Step.{completionOf, settled, fateOf, underTag, queueTag, topOf, rowAt, verdictOf, writeVerdict, submitted, eqLengths, called, step}
@@ -90,7 +90,7 @@ module _ (admitted : opens opening figuresPlan lengths ≡ true) (whole : length
       durableAs claimedBy oneMore accepted rowOf generationOf isLive names bytesAt raised awaitsNow oneLess keptBy poisonWith going freeing planOf asksFor
       completionOf settled fateOf underTag queueTag topOf rowAt verdictOf writeVerdict submitted eqLengths called step
       ask firstNo handleNamesRegion bufferInPool isHost heldAt hostHoldsBuffer roomInTable lifetimeLeft gateOpen storeWritable unpoisoned
-      regionWritable volumeAndRegionMatch generationMatches lengthAbove0 writeOnBlock aligned withinData regionAt writeQuestions
+      regionWritable volumeAndRegionMatch generationMatches lengthAbove0 aligned withinData regionAt writeQuestions
       planIn plansIn atFirst opened freed upFrom runsIn mapIn spanFrom runOf runEnd runLeft place pieceSize pick onBlock
   computed = record {
     region = omega arith;

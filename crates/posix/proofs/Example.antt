@@ -70,11 +70,7 @@ pub pieces-512 : pieces figures 512 1024 ≡ record { position = 512; count = 51
 unfolding pieces piecesUpTo pieceSize runLeft runEnd runOf spanFrom pick
 pieces-512 = refl
 
-pub pieces-256 : pieces figures 256 1024 ≡ record { position = 256; count = 768 } ∷ record { position = 1024; count = 256 } ∷ []
-unfolding pieces piecesUpTo pieceSize runLeft runEnd runOf spanFrom pick
-pieces-256 = refl
-
--- "piece (1,536, 512)", "piece (8,192, 512)" and "Write of 512 at 256: offset 1,280"
-pub offsets : (place figures 512 ≡ 1536) × (place figures 1024 ≡ 8192) × (place figures 256 ≡ 1280)
+-- "piece (1,536, 512)" and "piece (8,192, 512)"
+pub offsets : (place figures 512 ≡ 1536) × (place figures 1024 ≡ 8192)
 unfolding place runOf spanFrom pick
-offsets = (refl, refl, refl)
+offsets = (refl, refl)

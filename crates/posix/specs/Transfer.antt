@@ -2,7 +2,7 @@
 -- bytes meanwhile, act together like one transfer of every byte to or from its mapped card offset, and touch no other byte."
 -- Here nothing at all happens to card or pool between the pieces; what other calls do meanwhile comes with the calls.
 -- The pieces are the map's, transferred one after another by pread and pwrite; between two of them the operation's bytes turn as document 01
--- says. Nothing is supposed of the block: the start may be any position.
+-- says. Nothing is supposed of the block.
 use mathlib.Core.Path.{_≡_}
 use mathlib.Core.List.{List, [], _∷_, _++_}
 use Prim.Native.Nat.{ℕ, zero, suc, _+_, _-_, _*_, _≤_, _<_}

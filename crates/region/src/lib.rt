@@ -10,8 +10,8 @@ ghost use mathlib.Core.Bool.{_&&_};
 ghost use mathlib.Core.List.{[], _∷_};
 ghost use Prim.Native.Nat.{_+_, _^_};
 ghost use lib.Dec.{leb, ltb};
+ghost use Rattle.layout.specs.Block.{onBlock};
 ghost use Rattle.step.specs.Questions.{firstNo, volumeAndRegionMatch, generationMatches, lengthAbove0, aligned, withinData};
-ghost use Rattle.step.specs.Questions.{writeOnBlock, readOnBlock};
 use completion::Context;
 use completion::Refusal;
 use model::Asked;
@@ -31,16 +31,9 @@ pub fn names(volume: u64, id: u64, generation: u64, c: Context, q: Request) -> A
     crate::ready::ask(q.generation == generation, Refusal::StaleGeneration(c))
 }
 
-// Question 13 of a write: "`check` does not test the offset."
-pub fn write_on_block(block: u64, q: Request) -> bool
-    ensures { λ r. ⌜ r ≡ writeOnBlock block q ⌝ }
-{
-    layout::on_block(block, q.length)
-}
-
-// Question 13 of a read: "for offset and length".
-pub fn read_on_block(block: u64, q: Request) -> bool
-    ensures { λ r. ⌜ r ≡ readOnBlock block q ⌝ }
+// What question 13 tests, of a write and of a read: the offset and the length.
+fn on_block(block: u64, q: Request) -> bool
+    ensures { λ r. ⌜ r ≡ (onBlock block (q .offset .0) && onBlock block (q .length)) ⌝ }
 {
     if layout::on_block(block, q.offset.0) {
         layout::on_block(block, q.length)
@@ -59,14 +52,15 @@ fn within(start: Position, length: u64, data: u64) -> bool
     length <= data - start.0
 }
 
-// Questions 12 to 14: is the length above 0, is it (and of a read the offset) a multiple of the block, is the range within the data?
-pub fn check(data: u64, on_block: bool, c: Context, q: Request) -> Asked
-    ensures { λ r. ⌜ r ≡ firstNo (lengthAbove0 c q ∷ aligned «on_block» c ∷ withinData «data» c q ∷ []) ⌝ }
+// Questions 12 to 14: is the length above 0, are offset and length multiples of the block, is the range within the data? The Rust's `check`, of a write,
+// does not test the offset (docs/DIFFERENCES.md).
+pub fn check(data: u64, block: u64, c: Context, q: Request) -> Asked
+    ensures { λ r. ⌜ r ≡ firstNo (lengthAbove0 c q ∷ aligned block c q ∷ withinData «data» c q ∷ []) ⌝ }
 {
     if q.length == 0 {
         return Asked::No(Refusal::Empty(c));
     }
-    if !on_block {
+    if !on_block(block, q) {
         return Asked::No(Refusal::Misaligned(c));
     }
     crate::ready::ask(within(q.offset, q.length, data), Refusal::OutOfBounds(c))

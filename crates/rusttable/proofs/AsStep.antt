@@ -9,14 +9,14 @@ use Rattle.rusttable.proofs.Taking.{take-square}
 use Rattle.rusttable.proofs.InFlight.{in-flight}
 use Rattle.rusttable.proofs.Writing.{write-square, write-refused-square}
 use Rattle.rusttable.proofs.Reading.{read-square, read-refused-square}
-use Rattle.rusttable.specs.Domain.{knownHandle}
+use Rattle.rusttable.specs.Domain.{knownHandle, writeOnBlock}
 
 pub as-step : AsStep
-unfolding knownHandle
+unfolding knownHandle writeOnBlock
 as-step = record {
   new = new-table;
-  write = λ before s l q issued i d. write-square s l q issued i (d .handle) (d .numbers);
-  write-refused = λ before s l q issued i d t offset count b e pool may raw back flushes d′. write-refused-square s l q issued i (d .handle) t offset count b e pool may raw back flushes (d′ .numbers);
+  write = λ before s l q issued i d. write-square s l q issued i (d .handle) (d .blocks) (d .numbers);
+  write-refused = λ before s l q issued i d t offset count b e pool may raw back flushes d′. write-refused-square s l q issued i (d .handle) (d .blocks) t offset count b e pool may raw back flushes (d′ .numbers);
   read = λ before s l q issued i d. read-square s l q issued i (d .handle) (d .numbers);
   read-refused = λ before s l q issued i d t offset count b e pool may raw back flushes d′. read-refused-square s l q issued i (d .handle) t offset count b e pool may raw back flushes (d′ .numbers);
   in-flight = λ s l c i. in-flight s l c i;

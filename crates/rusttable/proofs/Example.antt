@@ -24,8 +24,8 @@ use Rattle.completion.specs.Numbers.{number}
 use Rattle.model.specs.State.{State, freed, upFrom, receiptFor}
 use Rattle.model.specs.Opening.{atFirst, opened, planIn, plansIn}
 use Rattle.step.specs.Questions.{ask, firstNo, handleNamesRegion, bufferInPool, isHost, heldAt, hostHoldsBuffer, roomInTable, lifetimeLeft, gateOpen, storeWritable, unpoisoned}
-use Rattle.step.specs.Questions.{regionWritable, volumeAndRegionMatch, generationMatches, lengthAbove0, writeOnBlock, aligned, withinData, regionAt}
-use Rattle.step.specs.Questions.{writeQuestions, readQuestions, readOnBlock, rangeFrom}
+use Rattle.step.specs.Questions.{regionWritable, volumeAndRegionMatch, generationMatches, lengthAbove0, aligned, withinData, regionAt}
+use Rattle.step.specs.Questions.{writeQuestions, readQuestions, rangeFrom}
 use Rattle.step.specs.Rules.{opOf, firstOf, lastOf, rangeOf, pieceOf, pieceLength, bufferAs, errorOf, turnedBack, isWritten, causeOf, failedRead, readOutcome, readLength, ticketOf, unflushed, writtenAs, lastPiece, abovePiece, isRefusal, firstRefused, isWhole, goesOn, splitAfter, pieceAnswered, answerRules, rules}
 use Rattle.step.specs.Step.{durableAs, claimedBy, oneMore, accepted, rowOf, generationOf, isLive, names, bytesAt, raised, awaitsNow, oneLess, keptBy, poisonWith, going, freeing, planOf, asksFor}
 use Rattle.step.specs.Step.{completionOf, rejection, settled, fateOf, underTag}
@@ -39,7 +39,7 @@ use Rattle.step.proofs.Figures.{figures}
 use Rattle.step.proofs.Histories.{leaves}
 use Rattle.step.proofs.Laws.{keeps, step-laws}
 use Rattle.step.specs.Figures.{figuresOpening, figuresPlan, figuresLengths, figuresTable, asking, replyAfter, tableAfter, answers}
-use Rattle.rusttable.specs.Domain.{compared, knownHandle, isTag, atOnce, unjoinedFrom, unjoined, InDomain}
+use Rattle.rusttable.specs.Domain.{compared, knownHandle, isTag, atOnce, writeOnBlock, unjoinedFrom, unjoined, InDomain}
 use Rattle.rusttable.specs.Histories.{MadeIn, HistoryIn}
 
 -- calls that all lend the figures' lengths, between which the host writes nothing
@@ -74,25 +74,25 @@ pub record InIt : Type 0 where
   pub together : CallsIn none figuresTable told
 
 pub in-it : InIt
-unfolding CallsIn compared knownHandle tagGiven isTag atOnce unjoinedFrom unjoined
-    figuresOpening figuresPlan figuresLengths figuresTable asking replyAfter tableAfter number opOf firstOf lastOf rangeOf pieceOf pieceLength bufferAs errorOf turnedBack isWritten causeOf failedRead readOutcome readLength ticketOf unflushed writtenAs lastPiece abovePiece isRefusal firstRefused isWhole goesOn splitAfter pieceAnswered answerRules rules receiptFor durableAs claimedBy oneMore accepted rowOf generationOf isLive names bytesAt raised awaitsNow oneLess keptBy poisonWith going freeing planOf asksFor completionOf rejection settled fateOf underTag queueTag topOf rowAt verdictOf writeVerdict submitted taken eqLengths called step ask firstNo handleNamesRegion bufferInPool isHost heldAt hostHoldsBuffer roomInTable lifetimeLeft gateOpen storeWritable unpoisoned regionWritable volumeAndRegionMatch generationMatches lengthAbove0 writeOnBlock aligned withinData regionAt writeQuestions planIn plansIn atFirst opened freed upFrom runsIn mapIn spanFrom runOf runEnd runLeft place pieceSize pick onBlock
+unfolding CallsIn compared knownHandle tagGiven isTag atOnce writeOnBlock unjoinedFrom unjoined
+    figuresOpening figuresPlan figuresLengths figuresTable asking replyAfter tableAfter number opOf firstOf lastOf rangeOf pieceOf pieceLength bufferAs errorOf turnedBack isWritten causeOf failedRead readOutcome readLength ticketOf unflushed writtenAs lastPiece abovePiece isRefusal firstRefused isWhole goesOn splitAfter pieceAnswered answerRules rules receiptFor durableAs claimedBy oneMore accepted rowOf generationOf isLive names bytesAt raised awaitsNow oneLess keptBy poisonWith going freeing planOf asksFor completionOf rejection settled fateOf underTag queueTag topOf rowAt verdictOf writeVerdict submitted taken eqLengths called step ask firstNo handleNamesRegion bufferInPool isHost heldAt hostHoldsBuffer roomInTable lifetimeLeft gateOpen storeWritable unpoisoned regionWritable volumeAndRegionMatch generationMatches lengthAbove0 aligned withinData regionAt writeQuestions planIn plansIn atFirst opened freed upFrom runsIn mapIn spanFrom runOf runEnd runLeft place pieceSize pick onBlock
 in-it = record {
-  write = record { numbers = refl; handle = refl; refusal = refl; maps = refl };
-  refused-first = record { numbers = refl; handle = refl; refusal = refl; maps = refl };
-  answered = record { numbers = refl; handle = refl; refusal = refl; maps = refl };
-  refused-next = record { numbers = refl; handle = refl; refusal = refl; maps = refl };
-  answered-then = record { numbers = refl; handle = refl; refusal = refl; maps = refl };
+  write = record { numbers = refl; handle = refl; refusal = refl; maps = refl; blocks = refl };
+  refused-first = record { numbers = refl; handle = refl; refusal = refl; maps = refl; blocks = refl };
+  answered = record { numbers = refl; handle = refl; refusal = refl; maps = refl; blocks = refl };
+  refused-next = record { numbers = refl; handle = refl; refusal = refl; maps = refl; blocks = refl };
+  answered-then = record { numbers = refl; handle = refl; refusal = refl; maps = refl; blocks = refl };
   together = (
-    record { numbers = refl; handle = refl; refusal = refl; maps = refl },
+    record { numbers = refl; handle = refl; refusal = refl; maps = refl; blocks = refl },
     (
-      record { numbers = refl; handle = refl; refusal = refl; maps = refl },
+      record { numbers = refl; handle = refl; refusal = refl; maps = refl; blocks = refl },
       (
-        record { numbers = refl; handle = refl; refusal = refl; maps = refl },
+        record { numbers = refl; handle = refl; refusal = refl; maps = refl; blocks = refl },
         (
-          record { numbers = refl; handle = refl; refusal = refl; maps = refl },
+          record { numbers = refl; handle = refl; refusal = refl; maps = refl; blocks = refl },
           (
-            record { numbers = refl; handle = refl; refusal = refl; maps = refl },
-            (record { numbers = refl; handle = refl; refusal = refl; maps = refl }, tt),
+            record { numbers = refl; handle = refl; refusal = refl; maps = refl; blocks = refl },
+            (record { numbers = refl; handle = refl; refusal = refl; maps = refl; blocks = refl }, tt),
           ),
         ),
       ),
@@ -173,12 +173,12 @@ pub record Between : Type 0 where
   pub live : isLive (rowAt read-twice 0 .awaits) ≡ true
 
 between : Between
-unfolding compared knownHandle tagGiven isTag atOnce unjoinedFrom unjoined figuresOpening figuresPlan figuresLengths figuresTable asking replyAfter tableAfter number opOf firstOf lastOf rangeOf pieceOf pieceLength bufferAs errorOf turnedBack isWritten causeOf failedRead readOutcome readLength ticketOf unflushed writtenAs lastPiece abovePiece isRefusal firstRefused isWhole goesOn splitAfter pieceAnswered answerRules rules receiptFor durableAs claimedBy oneMore accepted rowOf generationOf isLive names bytesAt raised awaitsNow oneLess keptBy poisonWith going freeing planOf asksFor completionOf rejection settled fateOf underTag queueTag topOf rowAt verdictOf submitted taken eqLengths called step ask firstNo handleNamesRegion bufferInPool isHost heldAt hostHoldsBuffer roomInTable lifetimeLeft gateOpen storeWritable unpoisoned regionWritable volumeAndRegionMatch generationMatches lengthAbove0 aligned withinData regionAt planIn plansIn atFirst opened freed upFrom runsIn mapIn spanFrom runOf runEnd runLeft place pieceSize pick onBlock loose planAt readVerdict readQuestions readOnBlock rangeFrom HistoryIn MadeIn next replyTo leave done
+unfolding compared knownHandle tagGiven isTag atOnce writeOnBlock unjoinedFrom unjoined figuresOpening figuresPlan figuresLengths figuresTable asking replyAfter tableAfter number opOf firstOf lastOf rangeOf pieceOf pieceLength bufferAs errorOf turnedBack isWritten causeOf failedRead readOutcome readLength ticketOf unflushed writtenAs lastPiece abovePiece isRefusal firstRefused isWhole goesOn splitAfter pieceAnswered answerRules rules receiptFor durableAs claimedBy oneMore accepted rowOf generationOf isLive names bytesAt raised awaitsNow oneLess keptBy poisonWith going freeing planOf asksFor completionOf rejection settled fateOf underTag queueTag topOf rowAt verdictOf submitted taken eqLengths called step ask firstNo handleNamesRegion bufferInPool isHost heldAt hostHoldsBuffer roomInTable lifetimeLeft gateOpen storeWritable unpoisoned regionWritable volumeAndRegionMatch generationMatches lengthAbove0 aligned withinData regionAt planIn plansIn atFirst opened freed upFrom runsIn mapIn spanFrom runOf runEnd runLeft place pieceSize pick onBlock loose planAt readVerdict readQuestions rangeFrom HistoryIn MadeIn next replyTo leave done
 between = record {
-  domain-1 = record { numbers = refl; handle = refl; refusal = refl; maps = refl };
-  domain-2 = record { numbers = refl; handle = refl; refusal = refl; maps = refl };
-  domain-3 = record { numbers = refl; handle = refl; refusal = refl; maps = refl };
-  domain-4 = record { numbers = refl; handle = refl; refusal = refl; maps = refl };
+  domain-1 = record { numbers = refl; handle = refl; refusal = refl; maps = refl; blocks = refl };
+  domain-2 = record { numbers = refl; handle = refl; refusal = refl; maps = refl; blocks = refl };
+  domain-3 = record { numbers = refl; handle = refl; refusal = refl; maps = refl; blocks = refl };
+  domain-4 = record { numbers = refl; handle = refl; refusal = refl; maps = refl; blocks = refl };
   tags = (refl, refl, refl);
   held = refl;
   sizes = (refl, refl, refl, refl);

@@ -27,3 +27,4 @@ pub mod LaterPieces
 pub mod Refusing
 pub mod Histories
 pub mod Example
+pub mod OffBlock

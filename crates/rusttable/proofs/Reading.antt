@@ -24,7 +24,7 @@ use Rattle.model.specs.declared.Asked.{Asked}
 use Rattle.model.specs.declared.Asked.the-variants.{No}
 use Rattle.model.specs.declared.Call.the-variants.{ReadPage, Answer as Answers}
 use Rattle.model.specs.State.{Region, State}
-use Rattle.step.specs.Questions.{rangeFrom, handleNamesRegion, bufferInPool, hostHoldsBuffer, roomInTable, lifetimeLeft, volumeAndRegionMatch, generationMatches, lengthAbove0, readOnBlock, aligned, withinData, regionAt, firstNo, readQuestions}
+use Rattle.step.specs.Questions.{rangeFrom, handleNamesRegion, bufferInPool, hostHoldsBuffer, roomInTable, lifetimeLeft, volumeAndRegionMatch, generationMatches, lengthAbove0, aligned, withinData, regionAt, firstNo, readQuestions}
 use Rattle.step.specs.Rules.{firstOf, lastOf, rangeOf, opOf, errorOf}
 use Rattle.step.specs.Step.{startOf, endOf, durableAs, planOf, readVerdict, called, step}
 use Rattle.step.specs.Sound.{Sound}
@@ -114,7 +114,7 @@ module _ (s : State) (i : Sound s) (q : Request) (n : ℕ) where
 
   module _ (known : ltb (q .handle) (s .settings .regions) ≡ true) where
     pub chain : Says (firstNo (readQuestions s region q))
-    unfolding readQuestions handleNamesRegion bufferInPool hostHoldsBuffer roomInTable lifetimeLeft volumeAndRegionMatch generationMatches lengthAbove0 readOnBlock aligned withinData rangeFrom number errorAs contextAs contextOf ctx «ctx_range» enter «not_written» pick
+    unfolding readQuestions handleNamesRegion bufferInPool hostHoldsBuffer roomInTable lifetimeLeft volumeAndRegionMatch generationMatches lengthAbove0 aligned withinData rangeFrom number errorAs contextAs contextOf ctx «ctx_range» enter «not_written» pick
     chain =
         by-ask _ _ _ Says
         (λ e₁. by-ask _ _ _ Says

@@ -28,7 +28,7 @@ use Rattle.model.specs.declared.Asked.{Asked}
 use Rattle.model.specs.declared.Asked.the-variants.{No}
 use Rattle.model.specs.declared.Call.the-variants.{Write, Answer as Answers}
 use Rattle.model.specs.State.{Region, State}
-use Rattle.step.specs.Questions.{handleNamesRegion, bufferInPool, hostHoldsBuffer, roomInTable, lifetimeLeft, storeWritable, regionWritable, volumeAndRegionMatch, generationMatches, lengthAbove0, writeOnBlock, aligned, withinData, regionAt, firstNo, writeQuestions}
+use Rattle.step.specs.Questions.{handleNamesRegion, bufferInPool, hostHoldsBuffer, roomInTable, lifetimeLeft, storeWritable, regionWritable, volumeAndRegionMatch, generationMatches, lengthAbove0, aligned, withinData, regionAt, firstNo, writeQuestions}
 use Rattle.step.specs.Rules.{firstOf, lastOf, rangeOf, opOf, errorOf}
 use Rattle.step.specs.Step.{startOf, endOf, durableAs, planOf, writeVerdict, called, step}
 use Rattle.step.specs.Sound.{Sound}
@@ -168,7 +168,7 @@ module _ (s : State) (i : Sound s) (q : Request) (n : ℕ) where
   says-no : (f : Refusal) (e : Error) → errorAs f ≡ some e → ((queue : Submitted) → rust queue ≡ rejected y given e) → Says (No f)
   says-no = answered-no s q n k true error rust
 
-  module _ (known : ltb (q .handle) (s .settings .regions) ≡ true) where
+  module _ (known : ltb (q .handle) (s .settings .regions) ≡ true) (on : onBlock (s .settings .block) (q .offset .0) ≡ true) where
     -- the last five questions
     module _ (a : admit y region given ≡ Ok tt) (r : «ready_for» (storeOf s n) region ≡ Ok tt) where
       abbrev checked : Result Position Error
@@ -178,9 +178,9 @@ module _ (s : State) (i : Sound s) (q : Request) (n : ℕ) where
       refuses e c queue = no-check queue e a r c
 
     pub chain : Says (firstNo (writeQuestions s region q))
-    unfolding writeQuestions handleNamesRegion bufferInPool hostHoldsBuffer roomInTable lifetimeLeft storeWritable regionWritable volumeAndRegionMatch generationMatches lengthAbove0 writeOnBlock aligned withinData number errorAs contextAs ctx noContext enter «not_written» pick
-    chain =
-        by-ask _ _ _ Says
+    unfolding writeQuestions handleNamesRegion bufferInPool hostHoldsBuffer roomInTable lifetimeLeft storeWritable regionWritable volumeAndRegionMatch generationMatches lengthAbove0 aligned withinData number errorAs contextAs ctx noContext enter «not_written» pick
+    chain = rw on
+        (by-ask _ _ _ Says
         (λ e₁. by-ask _ _ _ Says
         (λ e₂. by-ask _ _ _ Says
         (λ e₃. by-ask _ _ _ Says
@@ -211,7 +211,7 @@ module _ (s : State) (i : Sound s) (q : Request) (n : ℕ) where
         (λ e₄. says-no _ _ refl (λ queue. no-admit queue _ (admit-full s i q n e₂ e₄))))
         (λ e₃. answered-out s q n k true error rust _ refl))
         (λ e₂. says-no _ _ refl (λ queue. no-admit queue _ (admit-foreign s i q n e₂))))
-        (λ e₁. absurd (not-both known e₁))
+        (λ e₁. absurd (not-both known e₁)))
 
     -- ---- the squares
 
@@ -220,19 +220,19 @@ module _ (s : State) (i : Sound s) (q : Request) (n : ℕ) where
     same-error none = refl
     same-error (some e) = refl
 
-pub write-square : (s : State) (l : Lengths) (q : Request) (n : ℕ) → Sound s → ltb (q .handle) (s .settings .regions) ≡ true → compared (step s l (Write q) .1) ≡ true
+pub write-square : (s : State) (l : Lengths) (q : Request) (n : ℕ) → Sound s → ltb (q .handle) (s .settings .regions) ≡ true → onBlock (s .settings .block) (q .offset .0) ≡ true → compared (step s l (Write q) .1) ≡ true
     → Submits n true (bufOf s (q .buffer) (q .length)) (write (submitterOf s n) (q .handle) (posOf q) (bufOf s (q .buffer) (q .length)) (q .durable) (q .tag) Taken) (step s l (Write q))
 unfolding called writeVerdict
-write-square s l q n i known h =
+write-square s l q n i known on h =
     let e = called-step s l (Write q) h in
-    rw e (taken-by s q n _ true _ _ i (starts s i q n) _ (chain s i q n known) (rw e at h))
+    rw e (taken-by s q n _ true _ _ i (starts s i q n) _ (chain s i q n known on) (rw e at h))
 
-pub write-refused-square : (s : State) (l : Lengths) (q : Request) (n : ℕ) → Sound s → ltb (q .handle) (s .settings .regions) ≡ true
+pub write-refused-square : (s : State) (l : Lengths) (q : Request) (n : ℕ) → Sound s → ltb (q .handle) (s .settings .regions) ≡ true → onBlock (s .settings .block) (q .offset .0) ≡ true
     → (t : ℕ) (o : Offset) (c b : ℕ) → step s l (Write q) .1 ≡ piece t o c b
     → (pool : List ℕ) → HostMay (step s l (Write q) .0) pool → (raw : Option RawError) (back : Bool) (m : ℕ) → compared (step (leave (step s l (Write q) .0) pool) l (Answers t (refusalOf raw) back m) .1) ≡ true
     → Submits n true (bufOf s (q .buffer) (q .length)) (write (submitterOf s n) (q .handle) (posOf q) (bufOf s (q .buffer) (q .length)) (q .durable) (q .tag) (Refused raw (returned back (inFlight (leave (step s l (Write q) .0) pool) t))))
     (step (leave (step s l (Write q) .0) pool) l (Answers t (refusalOf raw) back m))
 unfolding called writeVerdict
-write-refused-square s l q n i known t o c b issued pool may raw back m h =
+write-refused-square s l q n i known on t o c b issued pool may raw back m h =
     let e = called-step s l (Write q) (is-piece (step s l (Write q) .1) t o c b issued) in
-    rw e (refused-by s q n _ true _ _ i (starts s i q n) (λ p. same-error s i q n known) l raw back m _ (chain s i q n known) (rw e at (keeps s l (Write q) i)) t o c b (rw e at issued) pool (rw e at may) (rw e at h))
+    rw e (refused-by s q n _ true _ _ i (starts s i q n) (λ p. same-error s i q n known on) l raw back m _ (chain s i q n known on) (rw e at (keeps s l (Write q) i)) t o c b (rw e at issued) pool (rw e at may) (rw e at h))

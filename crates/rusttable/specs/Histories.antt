@@ -187,7 +187,8 @@ said after s (e ∷ es) = saidBy after (leave s (e .leaves)) (e .made) (next s e
 
 -- ---- the claim
 
--- a history in the domain: every call is, with the tag that the reply before it issued, and the host writes only as document 01 allows. Nothing else
+-- a history in the domain: every call is, with the tag that the reply before it issued, and the host writes only as document 01 allows. So all of its
+-- writes are on the block, and not only the call at hand: behind a write that only the Rust accepts the two tables differ (OffBlock). Nothing else
 -- is asked of what the host writes, and so not between a submission and the refusal of its first piece either. There the Rust is within one call: its
 -- table holds no byte of a buffer that the host may write (AsStep, leaves), and the buffer that it hands back is the one that the queue gives back,
 -- with what was written into a read's piece.

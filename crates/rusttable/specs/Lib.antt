@@ -4,3 +4,4 @@ pub mod Functions
 pub mod Domain
 pub mod AsStep
 pub mod Histories
+pub mod OffBlock

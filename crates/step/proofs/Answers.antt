@@ -41,7 +41,7 @@ unfolding firstNo
 rest Yes more e = e
 rest (No f) more e = never e
 
-answered : (b : Bool) (f : Refusal) → ask b f ≡ Yes → b ≡ true
+pub answered : (b : Bool) (f : Refusal) → ask b f ≡ Yes → b ≡ true
 unfolding ask
 answered true f e = refl
 answered false f e = never e

@@ -9,7 +9,7 @@ use Rattle.completion.specs.Numbers.{number, values, contextValues}
 use Rattle.model.specs.State.{freed, upFrom, receiptFor}
 use Rattle.model.specs.Opening.{among, distinct, idsRule, runsOnBlock, blocksRule, mapRule, regionRule, eachRegion, allExtents, apartRule, withinRule, allTrue, numberRules, lengthRules, regionRules, admits, atFirst, opened, planIn, plansIn, listed, opens}
 use Rattle.step.specs.Questions.{rangeFrom, ask, firstNo, handleNamesRegion, bufferInPool, isHost, heldAt, hostHoldsBuffer, roomInTable, lifetimeLeft, gateOpen, storeWritable, unpoisoned}
-use Rattle.step.specs.Questions.{regionWritable, volumeAndRegionMatch, generationMatches, lengthAbove0, writeOnBlock, readOnBlock, aligned, withinData, regionAt}
+use Rattle.step.specs.Questions.{regionWritable, volumeAndRegionMatch, generationMatches, lengthAbove0, aligned, withinData, regionAt}
 use Rattle.step.specs.Questions.{writeQuestions, readQuestions}
 use Rattle.step.specs.Rules.{opOf, firstOf, lastOf, rangeOf, pieceOf, pieceLength, bufferAs, errorOf, turnedBack, isWritten, causeOf, failedRead, readOutcome, readLength, ticketOf, unflushed, writtenAs, lastPiece, abovePiece, isRefusal, firstRefused, isWhole, goesOn, splitAfter, pieceAnswered, flushOutcome, flushEnds, answerRules, flushRules, rules}
 use Rattle.step.specs.Step.{durableAs, claimedBy, oneMore, accepted, rowOf, generationOf, isLive, names, bytesAt, raised, awaitsNow, oneLess, keptBy, poisonWith, going, freeing, planOf, asksFor}
@@ -27,7 +27,7 @@ unfolding figuresOpening figuresPlan figuresLengths figuresTable asking replyAft
     completionOf rejection settled fateOf underTag givenBack taken withRegions marked withForced
     queueTag topOf rowAt verdictOf writeVerdict readVerdict submitted eqLengths called step
     ask firstNo handleNamesRegion bufferInPool isHost heldAt hostHoldsBuffer roomInTable lifetimeLeft gateOpen storeWritable unpoisoned
-    regionWritable volumeAndRegionMatch generationMatches lengthAbove0 writeOnBlock readOnBlock aligned withinData regionAt writeQuestions readQuestions
+    regionWritable volumeAndRegionMatch generationMatches lengthAbove0 aligned withinData regionAt writeQuestions readQuestions
     planIn plansIn listed opens allTrue numberRules lengthRules regionRules admits atFirst opened freed upFrom
     among distinct idsRule runsOnBlock blocksRule mapRule regionRule eachRegion allExtents apartRule withinRule
     runsIn mapIn spanFrom runOf runEnd runLeft place pieceSize ascends spansFrom spans extent extents apart apartFrom allApart allWithin
@@ -43,6 +43,10 @@ figures = record {
   read-256 = refl;
   write-256 = refl;
   read-256-values = refl;
+  write-256-values = refl;
+  write-256-empty = refl;
+  write-1537 = refl;
+  write-last = refl;
   empty = refl;
   answer-512 = refl;
   done-then = refl;

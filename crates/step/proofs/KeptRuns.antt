@@ -9,7 +9,7 @@ use Rattle.iobuf.specs.Turn.{turned, stretch, withStretch}
 use Rattle.model.specs.State.{freed, upFrom, receiptFor}
 use Rattle.model.specs.Opening.{atFirst, opened, planIn, plansIn}
 use Rattle.step.specs.Questions.{ask, firstNo, handleNamesRegion, bufferInPool, isHost, heldAt, hostHoldsBuffer, roomInTable, lifetimeLeft, gateOpen, storeWritable, unpoisoned}
-use Rattle.step.specs.Questions.{regionWritable, volumeAndRegionMatch, generationMatches, lengthAbove0, writeOnBlock, aligned, withinData, regionAt, writeQuestions}
+use Rattle.step.specs.Questions.{regionWritable, volumeAndRegionMatch, generationMatches, lengthAbove0, aligned, withinData, regionAt, writeQuestions}
 use Rattle.step.specs.Rules.{firstOf, lastOf, rangeOf, pieceOf, pieceLength, bufferAs, errorOf, turnedBack, isWritten, causeOf, ticketOf, writtenAs, lastPiece, abovePiece, isRefusal, firstRefused, isWhole, goesOn, splitAfter, pieceAnswered, flushOutcome, flushEnds, answerRules, flushRules, rules}
 use Rattle.step.specs.Step.{durableAs, claimedBy, oneMore, accepted, rowOf, generationOf, isLive, names, bytesAt, raised, awaitsNow, oneLess, keptBy, poisonWith, going, freeing, planOf, asksFor, marked, withForced, withRegions}
 use Rattle.step.specs.Step.{completionOf, rejection, settled, fateOf, underTag, queueTag, topOf, rowAt, verdictOf, writeVerdict, submitted, eqLengths, called, step}
@@ -30,7 +30,7 @@ unfolding opening lengths figuresPlan asking durably filled inTurn plansOf opene
     durableAs claimedBy oneMore accepted rowOf generationOf isLive names bytesAt raised awaitsNow oneLess keptBy poisonWith going freeing planOf asksFor marked withForced withRegions
     completionOf rejection settled fateOf underTag queueTag topOf rowAt verdictOf writeVerdict submitted eqLengths called step
     ask firstNo handleNamesRegion bufferInPool isHost heldAt hostHoldsBuffer roomInTable lifetimeLeft gateOpen storeWritable unpoisoned
-    regionWritable volumeAndRegionMatch generationMatches lengthAbove0 writeOnBlock aligned withinData regionAt writeQuestions
+    regionWritable volumeAndRegionMatch generationMatches lengthAbove0 aligned withinData regionAt writeQuestions
     planIn plansIn atFirst opened freed upFrom runsIn mapIn spanFrom runOf runEnd runLeft place pieceSize pick onBlock
 kept-runs = record {
   admitted = orders .admitted;

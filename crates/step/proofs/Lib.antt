@@ -69,3 +69,5 @@ pub mod Lost
 pub mod LostBytes
 pub mod Refused
 pub mod Others
+pub mod BlockPieces
+pub mod Blocks

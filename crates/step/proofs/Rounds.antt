@@ -26,7 +26,7 @@ use Rattle.model.specs.declared.Asked.the-variants.{Yes}
 use Rattle.model.specs.State.{Owner.host, Owner.table, State, freed, upFrom}
 use Rattle.model.specs.Opening.{atFirst, opened, planIn, plansIn}
 use Rattle.step.specs.Questions.{ask, firstNo, handleNamesRegion, bufferInPool, isHost, heldAt, hostHoldsBuffer, roomInTable, lifetimeLeft, gateOpen, storeWritable, unpoisoned}
-use Rattle.step.specs.Questions.{regionWritable, volumeAndRegionMatch, generationMatches, lengthAbove0, writeOnBlock, aligned, withinData, regionAt, idOf, writeQuestions}
+use Rattle.step.specs.Questions.{regionWritable, volumeAndRegionMatch, generationMatches, lengthAbove0, aligned, withinData, regionAt, idOf, writeQuestions}
 use Rattle.step.specs.Rules.{firstOf, lastOf, pieceOf, pieceLength, bufferAs, turnedBack, isWritten, ticketOf, writtenAs, lastPiece, abovePiece, isRefusal, firstRefused, isWhole, goesOn, pieceAnswered, answerRules, rules, Input.answered, Fate.ends}
 use Rattle.step.specs.Step.{durableAs, claimedBy, oneMore, accepted, rowOf, generationOf, isLive, names, bytesAt, raised, oneLess, keptBy, poisonWith, freeing, planOf, completionOf, settled, fateOf, underTag, givenBack, taken}
 use Rattle.step.specs.Step.{queueTag, topOf, rowAt, verdictOf, writeVerdict, submitted, eqLengths, called, step}
@@ -68,7 +68,7 @@ module _ (pool : List ℕ) where
   yes-all g n h =
       rw (left g n h)
       (unfold firstNo ask handleNamesRegion bufferInPool isHost heldAt hostHoldsBuffer roomInTable gateOpen storeWritable unpoisoned regionWritable volumeAndRegionMatch generationMatches
-      lengthAbove0 writeOnBlock onBlock aligned withinData regionAt at longOpening asking atFirst plansIn planIn mapIn figuresPlan in refl)
+      lengthAbove0 onBlock aligned withinData regionAt at longOpening asking atFirst plansIn planIn mapIn figuresPlan in refl)
 
   writes : (g n : ℕ) → n < 2 ^ 62 → step (at g n) figuresLengths (Write (asking 512 512)) .0 ≡ held g n
   unfolding step eqLengths called pick submitted writeVerdict verdictOf at held figuresLengths asking topOf

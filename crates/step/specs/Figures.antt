@@ -20,7 +20,7 @@ use Rattle.completion.specs.declared.Outcome.the-variants as Outcome
 use Rattle.completion.specs.declared.Buffer.the-variants as Buffer
 use Rattle.completion.specs.declared.Refusal.the-variants as Refusal
 use Rattle.completion.specs.declared.Reply.the-variants as Reply
-use Rattle.completion.specs.Numbers.{number, Values, Values.nothing, Values.range, values}
+use Rattle.completion.specs.Numbers.{number, Values, Values.nothing, Values.region, Values.range, values}
 use Rattle.model.specs.declared.{Opening.Opening, Lengths.Lengths, Request.Request, Call.Call}
 use Rattle.model.specs.declared.Call.the-variants as Call
 use Rattle.model.specs.State.{State}
@@ -200,11 +200,17 @@ pub record Figures : Type 0 where
   -- "*Length 1,024 there: 10. *Offset 2^64 − 512, length 512: 10."
   pub too-long : numberOf (replyAtFirst (Call.Write (asking 1536 1024))) ≡ some 10
   pub far-out : numberOf (replyAtFirst (Call.Write (asking (2 ^ 64 - 512) 512))) ≡ some 10
-  -- "*Read of 512 at 256: 9. *Write of 512 at 256: offset 1,280."
+  -- "*Read of 512 at 256: 9. *Write of 512 at 256: offset 1,280." Of the write document 02, P6: "The write at 256 among document 01's figures now
+  -- gets 9."
   pub read-256 : numberOf (replyAtFirst (Call.ReadPage (asking 256 512))) ≡ some 9
-  pub write-256 : replyAtFirst (Call.Write (asking 256 512)) ≡ Reply.Piece 0 (offsetOf 1280) 512 0
-  -- (ours: the context of that read's 9, "the region's id", and "the range")
+  pub write-256 : numberOf (replyAtFirst (Call.Write (asking 256 512))) ≡ some 9
+  -- (ours: the context of each 9: "the region's id", of the read also "the range")
   pub read-256-values : valuesOf (replyAtFirst (Call.ReadPage (asking 256 512))) ≡ range 7 (positionOf 256) (positionOf 768)
+  pub write-256-values : valuesOf (replyAtFirst (Call.Write (asking 256 512))) ≡ region 7
+  -- (ours: 8 is asked before 9, and 9 before 10, of a write whose offset is off the block)
+  pub write-256-empty : numberOf (replyAtFirst (Call.Write (asking 256 0))) ≡ some 8
+  pub write-1537 : numberOf (replyAtFirst (Call.Write (asking 1537 1024))) ≡ some 9
+  pub write-last : numberOf (replyAtFirst (Call.Write (asking (2 ^ 64 - 1) 512))) ≡ some 9
   -- "*Length 0: 8."
   pub empty : numberOf (replyAtFirst (Call.Write (asking 512 0))) ≡ some 8
   -- "*One live, one ready: 3."

@@ -14,3 +14,4 @@ pub mod Figures
 pub mod Orders
 pub mod KeptRuns
 pub mod Run
+pub mod Blocks

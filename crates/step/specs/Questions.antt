@@ -107,16 +107,10 @@ generationMatches generation c q = ask (eqb (q .generation) generation) (Refusal
 unfoldable pub lengthAbove0 : Context → Request → Asked
 lengthAbove0 c q = ask (ltb 0 (q .length)) (Refusal.Empty c)
 
--- 13. "Is the length a multiple of the block? No: 9 Misaligned. `check` does not test the offset."
-unfoldable pub writeOnBlock : ℕ → Request → Bool
-writeOnBlock block q = onBlock block (q .length)
-
--- .. of a read: "then 13 for offset and length"
-unfoldable pub readOnBlock : ℕ → Request → Bool
-readOnBlock block q = onBlock block (q .offset .0) && onBlock block (q .length)
-
-unfoldable pub aligned : Bool → Context → Asked
-aligned multiple c = ask multiple (Refusal.Misaligned c)
+-- 13. "Is the length a multiple of the block? No: 9 Misaligned." Of a read "for offset and length"; and document 02, P6: "Question 13 for a write tests
+-- the offset as well as the length, as it does for a read." So of both it is one question.
+unfoldable pub aligned : ℕ → Context → Request → Asked
+aligned block c q = ask (onBlock block (q .offset .0) && onBlock block (q .length)) (Refusal.Misaligned c)
 
 -- 14. "Is offset + length, without overflow, within the data? No: 10 OutOfBounds."
 unfoldable pub withinData : ℕ → Context → Request → Asked
@@ -145,7 +139,7 @@ writeQuestions s g q =
     ∷ volumeAndRegionMatch (s .settings .volume) (g .id) (idOf g) q
     ∷ generationMatches (g .generation) (idOf g) q
     ∷ lengthAbove0 (idOf g) q
-    ∷ aligned (writeOnBlock (s .settings .block) q) (idOf g)
+    ∷ aligned (s .settings .block) (idOf g) q
     ∷ withinData (g .map .dataLength) (idOf g) q
     ∷ []
 
@@ -162,6 +156,6 @@ readQuestions s g q =
     ∷ lifetimeLeft (s .settings .lifetime) (s .counts) (idOf g)
     ∷ gateOpen (g .gate) (idOf g)
     ∷ lengthAbove0 (idAndRange g q) q
-    ∷ aligned (readOnBlock (s .settings .block) q) (idAndRange g q)
+    ∷ aligned (s .settings .block) (idAndRange g q) q
     ∷ withinData (g .map .dataLength) (idAndRange g q) q
     ∷ []

@@ -19,7 +19,7 @@ use Rattle.model.specs.declared.Asked.{Asked}
 use Rattle.model.specs.declared.Asked.the-variants.{Yes, No}
 use Rattle.model.specs.State.{Region, State, Owner.lost}
 use Rattle.model.specs.Memory.{settingsIn, poisonIn, ownerIn}
-use Rattle.step.specs.Questions.{ask, firstNo, isHost, heldAt, rangeFrom, regionAt, handleNamesRegion, bufferInPool, hostHoldsBuffer, roomInTable, lifetimeLeft, gateOpen, storeWritable, unpoisoned, regionWritable, volumeAndRegionMatch, generationMatches, lengthAbove0, writeOnBlock, readOnBlock, aligned, withinData, writeQuestions, readQuestions}
+use Rattle.step.specs.Questions.{ask, firstNo, isHost, heldAt, rangeFrom, regionAt, handleNamesRegion, bufferInPool, hostHoldsBuffer, roomInTable, lifetimeLeft, gateOpen, storeWritable, unpoisoned, regionWritable, volumeAndRegionMatch, generationMatches, lengthAbove0, aligned, withinData, writeQuestions, readQuestions}
 use Rattle.memory.specs.declared.liveregion.LiveRegion.{LiveRegion}
 use Rattle.memory.specs.Live.{InStore, regionOf, liveOf}
 use Rattle.submission.specs.Asks.{Reads, writeList, readList}
@@ -56,14 +56,14 @@ readyList readOnly p regionReadOnly c = storeWritable readOnly ∷ unpoisoned p 
 abbrev pub namesList : ℕ → LiveRegion → Context → Request → List Asked
 namesList volume g c q = volumeAndRegionMatch volume (g .id) c q ∷ generationMatches (g .generation) c q ∷ []
 
-abbrev pub checkList : LiveRegion → Bool → Context → Request → List Asked
-checkList g onBlock c q = lengthAbove0 c q ∷ aligned onBlock c ∷ withinData (g .«data») c q ∷ []
+abbrev pub checkList : LiveRegion → ℕ → Context → Request → List Asked
+checkList g block c q = lengthAbove0 c q ∷ aligned block c q ∷ withinData (g .«data») c q ∷ []
 
 -- the first no of the groups, one behind the other, is that of the list
 pub write-groups : (o : Opening) (n : Counts) (g : LiveRegion) (p : Poisoned) (held : Bool) (q : Request)
     → firstNo (firstNo (admitList o n held (g .gate) (withRegion (g .id)) q)
     ∷ firstNo (firstNo (readyList (o .«read_only») p (g .«read_only») (withRegion (g .id)))
-    ∷ firstNo (firstNo (namesList (o .volume) g (withRegion (g .id)) q) ∷ firstNo (checkList g (writeOnBlock (o .block) q) (withRegion (g .id)) q) ∷ []) ∷ []) ∷ [])
+    ∷ firstNo (firstNo (namesList (o .volume) g (withRegion (g .id)) q) ∷ firstNo (checkList g (o .block) (withRegion (g .id)) q) ∷ []) ∷ []) ∷ [])
     ≡ firstNo (writeList o n g p held q)
 unfolding writeList
 write-groups o n g p held q =
@@ -81,11 +81,11 @@ write-groups o n g p held q =
     names = namesList (o .volume) g (withRegion (g .id)) q
 
     checks : List Asked
-    checks = checkList g (writeOnBlock (o .block) q) (withRegion (g .id)) q
+    checks = checkList g (o .block) (withRegion (g .id)) q
 
 pub read-groups : (o : Opening) (n : Counts) (g : LiveRegion) (held : Bool) (q : Request)
     → firstNo (firstNo (namesList (o .volume) g (withRegion (g .id)) q)
-    ∷ firstNo (firstNo (admitList o n held (g .gate) (withRegion (g .id)) q) ∷ firstNo (checkList g (readOnBlock (o .block) q) (rangeFrom (g .id) (q .offset) (q .length)) q) ∷ []) ∷ [])
+    ∷ firstNo (firstNo (admitList o n held (g .gate) (withRegion (g .id)) q) ∷ firstNo (checkList g (o .block) (rangeFrom (g .id) (q .offset) (q .length)) q) ∷ []) ∷ [])
     ≡ firstNo (readList o n g held q)
 unfolding readList
 read-groups o n g held q = ap (λ (a : Asked). firstNo (firstNo names ∷ a ∷ [])) (grouped admits checks) ∙ grouped names (admits ++ checks)
@@ -97,7 +97,7 @@ read-groups o n g held q = ap (λ (a : Asked). firstNo (firstNo names ∷ a ∷ 
     admits = admitList o n held (g .gate) (withRegion (g .id)) q
 
     checks : List Asked
-    checks = checkList g (readOnBlock (o .block) q) (rangeFrom (g .id) (q .offset) (q .length)) q
+    checks = checkList g (o .block) (rangeFrom (g .id) (q .offset) (q .length)) q
 
 -- ---- what the code read
 

@@ -13,7 +13,7 @@ use Rattle.model.specs.Memory.{settingsIn, poisonIn, ownerIn}
 use Rattle.model.specs.Opening.{HEAD}
 use Rattle.step.specs.Questions.{rangeFrom, regionAt, firstNo, bufferInPool, hostHoldsBuffer, roomInTable, lifetimeLeft, gateOpen}
 use Rattle.step.specs.Questions.{storeWritable, unpoisoned, regionWritable, volumeAndRegionMatch, generationMatches}
-use Rattle.step.specs.Questions.{lengthAbove0, writeOnBlock, readOnBlock, aligned, withinData}
+use Rattle.step.specs.Questions.{lengthAbove0, aligned, withinData}
 use Rattle.memory.specs.declared.liveregion.LiveRegion.{LiveRegion}
 use Rattle.memory.specs.Live.{InStore, regionOf}
 
@@ -46,7 +46,7 @@ writeList o n g p held q =
     ∷ volumeAndRegionMatch (o .volume) (g .id) c q
     ∷ generationMatches (g .generation) c q
     ∷ lengthAbove0 c q
-    ∷ aligned (writeOnBlock (o .block) q) c
+    ∷ aligned (o .block) c q
     ∷ withinData (g .«data») c q
     ∷ []
 
@@ -63,6 +63,6 @@ readList o n g held q =
     ∷ lifetimeLeft (o .lifetime) n c
     ∷ gateOpen (g .gate) c
     ∷ lengthAbove0 r q
-    ∷ aligned (readOnBlock (o .block) q) r
+    ∷ aligned (o .block) r q
     ∷ withinData (g .«data») r q
     ∷ []

@@ -29,7 +29,7 @@ fn write_answers(
     let admitted = crate::admit::admit(counts, o.depth, o.lifetime, pooled, held, gate, c);
     let writable = region::ready::ready_for(o.read_only, poison, g.read_only, c);
     let named = region::names(o.volume, g.id, g.generation, c, q);
-    let checked = region::check(g.data, region::write_on_block(o.block, q), c, q);
+    let checked = region::check(g.data, o.block, c, q);
     region::ready::both(
         admitted,
         region::ready::both(writable, region::ready::both(named, checked)),
@@ -47,7 +47,7 @@ fn read_answers(o: Opening, counts: Counts, g: LiveRegion, held: bool, q: Reques
     let admitted = crate::admit::admit(counts, o.depth, o.lifetime, pooled, held, gate, c);
     let start = q.offset;
     let ranged = region::ready::ctx_range(g.id, start, q.length);
-    let checked = region::check(g.data, region::read_on_block(o.block, q), ranged, q);
+    let checked = region::check(g.data, o.block, ranged, q);
     region::ready::both(named, region::ready::both(admitted, checked))
 }
 

@@ -18,14 +18,16 @@ returns c = rw (c .if1 .taken)
 
 returns-2 : tie.Need-returns-2
 unfolding ask firstNo lengthAbove0 aligned
-returns-2 c = rw (lt-ltb 0 _ (some _ (c .before .if1 .left)), not-true (c .before .before .before .args .on-block) (c .if2 .taken))
+returns-2 c =
+    let tested = c .before .on-block .ensures in
+    rw (lt-ltb 0 _ (some _ (c .before .before .if1 .left)), sym tested ∙ not-true _ (c .if2 .taken))
 
 returns-3 : tie.Need-returns-3
 unfolding ask firstNo lengthAbove0 aligned withinData
 returns-3 c =
-    let a = c .before .before .before .before .before .args in
-    rw (lt-ltb 0 _ (some _ (c .before .before .before .if1 .left)), not-false (a .on-block) (c .before .before .if2 .left))
+    let a = c .before .before .before .before .before .before .args in
+    rw (lt-ltb 0 _ (some _ (c .before .before .before .before .if1 .left)), sym (c .before .before .before .on-block .ensures) ∙ not-false _ (c .before .before .if2 .left))
     (c .ask .ensures ∙ rw (c .before .within .ensures) (sym (alone (withinData (a .«data») (a .c) (a .q)))))
 
 pub check-spec : {M : Type 1} → statement M
-check-spec = tie.close (tie.spec returns returns-2 (λ c κs. search needs) (λ c κs. search needs) returns-3)
+check-spec = tie.close (tie.spec returns (λ c κs. search needs) returns-2 (λ c κs. search needs) (λ c κs. search needs) returns-3)

@@ -1,0 +1,71 @@
+-- A write off the block: the smallest input of docs/DIFFERENCES.md, and why the domain asks every write of a history. Document 02, P6: "The Rust's `check`
+-- lets such a write pass". On the figures' opening a write of 512 at 256, then one of buffer 1 at 512. Here the first gets 9 and changes nothing, and
+-- the second has row 0. In the Rust the first has row 0 and its piece is issued, and the second has row 1. The second call by itself is in the domain;
+-- the history is not, since its first call is not, and no weaker condition on that call would do: the two tables differ at the end. Proved in
+-- proofs/OffBlock.antt (off-block).
+use mathlib.Core.Path.{_≡_}
+use mathlib.Core.Bool.{true, false}
+use mathlib.Core.List.{List, [], _∷_, map}
+use mathlib.Core.Option.{Option, none, some}
+use Prim.Native.Nat.{ℕ}
+use Rattle.regionmap.specs.Words.{offsetOf}
+use Rattle.completion.specs.declared.{Reply.Reply, Context.Context}
+use Rattle.completion.specs.declared.Context.the-variants as Context
+use Rattle.completion.specs.declared.Refusal.the-variants as Refusal
+use Rattle.completion.specs.declared.Reply.the-variants as Reply
+use Rattle.model.specs.declared.Call.{Call}
+use Rattle.model.specs.declared.Call.the-variants as Call
+use Rattle.model.specs.State.{State}
+use Rattle.model.specs.Opening.{plansIn}
+use Rattle.step.specs.Run.{Made.calls, Event, next, replyTo, run}
+use Rattle.step.specs.Step.{step}
+use Rattle.step.specs.Figures.{figuresOpening, figuresPlan, figuresLengths, figuresTable, asking, inBuffer}
+use Rattle.rusttable.specs.Table.{IoBuf, Submitter, Req, Req.WriteAt, Req.ReadAt, Issued, Issued.Submit, Issued.Reject}
+use Rattle.rusttable.specs.Domain.{compared, knownHandle, atOnce, unjoined, InDomain}
+use Rattle.rusttable.specs.Histories.{HandedBack, HandedBack.submits, HandedBack.finishes, HandedBack.takes}
+use Rattle.rusttable.specs.Histories.{rustOpened, rustRun, handed, said, Agrees}
+
+-- the two calls; the host leaves the pool as it is
+abbrev pub offBlock : Call
+offBlock = Call.Write (asking 256 512)
+
+abbrev pub thenOn : Call
+thenOn = Call.Write (inBuffer 1 (asking 512 512))
+
+abbrev pub quietly : Call → Event
+quietly c = record { leaves = figuresTable .pool; lengths = figuresLengths; made = calls c }
+
+abbrev pub both : List Event
+both = quietly offBlock ∷ quietly thenOn ∷ []
+
+-- what the Rust does with them
+unfoldable pub inRust : Submitter × List HandedBack
+inRust = rustRun (rustOpened figuresOpening (plansIn 1 figuresPlan)) (handed false figuresTable both)
+
+-- a piece that the Rust hands its queue: queue tag, card offset, length
+unfoldable pub reqAt : ℕ → Req → ℕ × ℕ × ℕ
+reqAt t (WriteAt offset buf) = (t, offset, buf .len)
+reqAt t (ReadAt offset buf) = (t, offset, buf .len)
+
+unfoldable pub issuedAt : Issued → Option (ℕ × ℕ × ℕ)
+issuedAt (Submit t req) = some (reqAt t req)
+issuedAt (Reject r) = none
+
+unfoldable pub pieceIn : HandedBack → Option (ℕ × ℕ × ℕ)
+pieceIn (submits i) = issuedAt i
+pieceIn (finishes f) = none
+pieceIn (takes c) = none
+
+pub record OffBlock : Type 0 where
+  -- here: 9 with the region's id, and nothing changes; then tag 0
+  pub nine : replyTo figuresTable (quietly offBlock) ≡ Reply.No (Refusal.Misaligned (Context.Region 7))
+  pub unchanged : next figuresTable (quietly offBlock) ≡ figuresTable
+  pub then-tag-0 : replyTo figuresTable (quietly thenOn) ≡ Reply.Piece 0 (offsetOf 1536) 512 1
+  -- the Rust: both are issued
+  pub issued : map pieceIn (inRust .1) ≡ some (0, 1280, 512) ∷ some (1, 1536, 512) ∷ []
+  -- the first call is what document 01's domain asks; the second is all that is asked of a call
+  pub but-for-the-block : (compared (step figuresTable figuresLengths offBlock .1) ≡ true) × (knownHandle figuresTable offBlock ≡ true)
+      × (atOnce none offBlock ≡ true) × (unjoined (figuresTable .regions) ≡ true)
+  pub call-at-hand : InDomain none figuresTable figuresLengths thenOn
+  -- behind them the tables differ
+  pub differ : Agrees inRust (run figuresTable both) (said false figuresTable both) → ⊥
