@@ -33,6 +33,12 @@ int main(void)
     const uint64_t plan[70] = {7, 3, 1024, 2048, 2048, 1, 1024, 8192};
     table_open(opening, plan, 70, MINE);
     EXPECT(TABLE_REPLY_OK);
+    /* 512 bytes at 256 are off the block: 9, of a write with the region's id, of a read with the range too; nothing changes */
+    const uint64_t off_block[9] = {0, 1, 7, 3, 256, 0, 512, 0, 70};
+    table_write(off_block, MINE);
+    EXPECT(TABLE_REPLY_NO, TABLE_REFUSAL_MISALIGNED, TABLE_CONTEXT_REGION, 7);
+    table_read_page(off_block, MINE);
+    EXPECT(TABLE_REPLY_NO, TABLE_REFUSAL_MISALIGNED, TABLE_CONTEXT_RANGE, 7, 256, 768);
     const uint64_t request[9] = {0, 1, 7, 3, 512, 0, 1024, 0, 70};
     table_write(request, MINE);
     EXPECT(TABLE_REPLY_PIECE, 0, 1536, 512, 0);

@@ -25,7 +25,7 @@ extern "C" {
 
 /* a reply's case, out[0], and what stands behind it */
 enum {
-    TABLE_REPLY_PIECE = 1,     /* a piece for the card: 1 queue tag, 2 card offset, 3 count, 4 buffer */
+    TABLE_REPLY_PIECE = 1,     /* a piece for the card, whole blocks at a block offset: 1 queue tag, 2 card offset, 3 count, 4 buffer */
     TABLE_REPLY_NO = 2,        /* turned away, nothing has changed: 1 number (TABLE_REFUSAL_..), 2 context (TABLE_CONTEXT_..), 3 to 5 its values */
     TABLE_REPLY_REJECTED = 3,  /* a first piece refused: 1 region, 2 start, 3 end, 4 operation (TABLE_OP_..), 5 whether an error (Io; else QueueFull), 6 the error,
                                 * 7 whether the buffer is back, 8 the buffer, 9 its length */
@@ -49,7 +49,7 @@ enum {
     TABLE_REFUSAL_READ_ONLY = 6,
     TABLE_REFUSAL_POISONED = 7,
     TABLE_REFUSAL_EMPTY = 8,
-    TABLE_REFUSAL_MISALIGNED = 9,
+    TABLE_REFUSAL_MISALIGNED = 9,  /* offset or length off the block, of a write as of a read */
     TABLE_REFUSAL_OUT_OF_BOUNDS = 10,
     TABLE_REFUSAL_NOT_HELD = 11,
     TABLE_REFUSAL_LIFETIME_SPENT = 12,

@@ -1,4 +1,4 @@
-// What a request is asked of its region (store-io's region.rs, PageRegion::check, and the same tests of Submitter::read_page and read).
+// What a request is asked of its region (store-io's region.rs, PageRegion::check, and the tests of Submitter::read_page and read).
 //
 // ready    contexts, and whether the store and the region may be written
 // receipt  the receipt of a durable write
@@ -10,7 +10,6 @@ ghost use mathlib.Core.Bool.{_&&_};
 ghost use mathlib.Core.List.{[], _∷_};
 ghost use Prim.Native.Nat.{_+_, _^_};
 ghost use lib.Dec.{leb, ltb};
-ghost use Rattle.layout.specs.Block.{onBlock};
 ghost use Rattle.step.specs.Questions.{firstNo, volumeAndRegionMatch, generationMatches, lengthAbove0, aligned, withinData};
 use completion::Context;
 use completion::Refusal;
@@ -31,15 +30,14 @@ pub fn names(volume: u64, id: u64, generation: u64, c: Context, q: Request) -> A
     crate::ready::ask(q.generation == generation, Refusal::StaleGeneration(c))
 }
 
-// What question 13 tests, of a write and of a read: the offset and the length.
-fn on_block(block: u64, q: Request) -> bool
-    ensures { λ r. ⌜ r ≡ (onBlock block (q .offset .0) && onBlock block (q .length)) ⌝ }
+// Question 13, of a write and of a read: are offset and length multiples of the block? The Rust's `check`, of a write, does not test the offset
+// (docs/DIFFERENCES.md).
+fn alignment(block: u64, c: Context, q: Request) -> Asked
+    ensures { λ r. ⌜ r ≡ aligned block c q ⌝ }
 {
-    if layout::on_block(block, q.offset.0) {
-        layout::on_block(block, q.length)
-    } else {
-        false
-    }
+    let offset = layout::on_block(block, q.offset.0);
+    let length = layout::on_block(block, q.length);
+    crate::ready::ask(layout::both(offset, length), Refusal::Misaligned(c))
 }
 
 // The range ends within the data; no sum is made, so none wraps (checked_add).
@@ -52,16 +50,14 @@ fn within(start: Position, length: u64, data: u64) -> bool
     length <= data - start.0
 }
 
-// Questions 12 to 14: is the length above 0, are offset and length multiples of the block, is the range within the data? The Rust's `check`, of a write,
-// does not test the offset (docs/DIFFERENCES.md).
+// Questions 12 to 14: is the length above 0, are offset and length multiples of the block, is the range within the data?
 pub fn check(data: u64, block: u64, c: Context, q: Request) -> Asked
     ensures { λ r. ⌜ r ≡ firstNo (lengthAbove0 c q ∷ aligned block c q ∷ withinData «data» c q ∷ []) ⌝ }
 {
     if q.length == 0 {
         return Asked::No(Refusal::Empty(c));
     }
-    if !on_block(block, q) {
-        return Asked::No(Refusal::Misaligned(c));
-    }
-    crate::ready::ask(within(q.offset, q.length, data), Refusal::OutOfBounds(c))
+    let on_block = alignment(block, c, q);
+    let bounds = crate::ready::ask(within(q.offset, q.length, data), Refusal::OutOfBounds(c));
+    crate::ready::both(on_block, bounds)
 }

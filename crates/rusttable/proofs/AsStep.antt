@@ -9,10 +9,10 @@ use Rattle.rusttable.proofs.Taking.{take-square}
 use Rattle.rusttable.proofs.InFlight.{in-flight}
 use Rattle.rusttable.proofs.Writing.{write-square, write-refused-square}
 use Rattle.rusttable.proofs.Reading.{read-square, read-refused-square}
-use Rattle.rusttable.specs.Domain.{knownHandle, writeOnBlock}
+use Rattle.rusttable.specs.Domain.{knownHandle, writeOffsetOnBlock}
 
 pub as-step : AsStep
-unfolding knownHandle writeOnBlock
+unfolding knownHandle writeOffsetOnBlock
 as-step = record {
   new = new-table;
   write = λ before s l q issued i d. write-square s l q issued i (d .handle) (d .blocks) (d .numbers);

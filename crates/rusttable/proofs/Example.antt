@@ -39,7 +39,7 @@ use Rattle.step.proofs.Figures.{figures}
 use Rattle.step.proofs.Histories.{leaves}
 use Rattle.step.proofs.Laws.{keeps, step-laws}
 use Rattle.step.specs.Figures.{figuresOpening, figuresPlan, figuresLengths, figuresTable, asking, replyAfter, tableAfter, answers}
-use Rattle.rusttable.specs.Domain.{compared, knownHandle, isTag, atOnce, writeOnBlock, unjoinedFrom, unjoined, InDomain}
+use Rattle.rusttable.specs.Domain.{compared, knownHandle, isTag, atOnce, writeOffsetOnBlock, unjoinedFrom, unjoined, InDomain}
 use Rattle.rusttable.specs.Histories.{MadeIn, HistoryIn}
 
 -- calls that all lend the figures' lengths, between which the host writes nothing
@@ -74,7 +74,7 @@ pub record InIt : Type 0 where
   pub together : CallsIn none figuresTable told
 
 pub in-it : InIt
-unfolding CallsIn compared knownHandle tagGiven isTag atOnce writeOnBlock unjoinedFrom unjoined
+unfolding CallsIn compared knownHandle tagGiven isTag atOnce writeOffsetOnBlock unjoinedFrom unjoined
     figuresOpening figuresPlan figuresLengths figuresTable asking replyAfter tableAfter number opOf firstOf lastOf rangeOf pieceOf pieceLength bufferAs errorOf turnedBack isWritten causeOf failedRead readOutcome readLength ticketOf unflushed writtenAs lastPiece abovePiece isRefusal firstRefused isWhole goesOn splitAfter pieceAnswered answerRules rules receiptFor durableAs claimedBy oneMore accepted rowOf generationOf isLive names bytesAt raised awaitsNow oneLess keptBy poisonWith going freeing planOf asksFor completionOf rejection settled fateOf underTag queueTag topOf rowAt verdictOf writeVerdict submitted taken eqLengths called step ask firstNo handleNamesRegion bufferInPool isHost heldAt hostHoldsBuffer roomInTable lifetimeLeft gateOpen storeWritable unpoisoned regionWritable volumeAndRegionMatch generationMatches lengthAbove0 aligned withinData regionAt writeQuestions planIn plansIn atFirst opened freed upFrom runsIn mapIn spanFrom runOf runEnd runLeft place pieceSize pick onBlock
 in-it = record {
   write = record { numbers = refl; handle = refl; refusal = refl; maps = refl; blocks = refl };
@@ -173,7 +173,7 @@ pub record Between : Type 0 where
   pub live : isLive (rowAt read-twice 0 .awaits) ≡ true
 
 between : Between
-unfolding compared knownHandle tagGiven isTag atOnce writeOnBlock unjoinedFrom unjoined figuresOpening figuresPlan figuresLengths figuresTable asking replyAfter tableAfter number opOf firstOf lastOf rangeOf pieceOf pieceLength bufferAs errorOf turnedBack isWritten causeOf failedRead readOutcome readLength ticketOf unflushed writtenAs lastPiece abovePiece isRefusal firstRefused isWhole goesOn splitAfter pieceAnswered answerRules rules receiptFor durableAs claimedBy oneMore accepted rowOf generationOf isLive names bytesAt raised awaitsNow oneLess keptBy poisonWith going freeing planOf asksFor completionOf rejection settled fateOf underTag queueTag topOf rowAt verdictOf submitted taken eqLengths called step ask firstNo handleNamesRegion bufferInPool isHost heldAt hostHoldsBuffer roomInTable lifetimeLeft gateOpen storeWritable unpoisoned regionWritable volumeAndRegionMatch generationMatches lengthAbove0 aligned withinData regionAt planIn plansIn atFirst opened freed upFrom runsIn mapIn spanFrom runOf runEnd runLeft place pieceSize pick onBlock loose planAt readVerdict readQuestions rangeFrom HistoryIn MadeIn next replyTo leave done
+unfolding compared knownHandle tagGiven isTag atOnce writeOffsetOnBlock unjoinedFrom unjoined figuresOpening figuresPlan figuresLengths figuresTable asking replyAfter tableAfter number opOf firstOf lastOf rangeOf pieceOf pieceLength bufferAs errorOf turnedBack isWritten causeOf failedRead readOutcome readLength ticketOf unflushed writtenAs lastPiece abovePiece isRefusal firstRefused isWhole goesOn splitAfter pieceAnswered answerRules rules receiptFor durableAs claimedBy oneMore accepted rowOf generationOf isLive names bytesAt raised awaitsNow oneLess keptBy poisonWith going freeing planOf asksFor completionOf rejection settled fateOf underTag queueTag topOf rowAt verdictOf submitted taken eqLengths called step ask firstNo handleNamesRegion bufferInPool isHost heldAt hostHoldsBuffer roomInTable lifetimeLeft gateOpen storeWritable unpoisoned regionWritable volumeAndRegionMatch generationMatches lengthAbove0 aligned withinData regionAt planIn plansIn atFirst opened freed upFrom runsIn mapIn spanFrom runOf runEnd runLeft place pieceSize pick onBlock loose planAt readVerdict readQuestions rangeFrom HistoryIn MadeIn next replyTo leave done
 between = record {
   domain-1 = record { numbers = refl; handle = refl; refusal = refl; maps = refl; blocks = refl };
   domain-2 = record { numbers = refl; handle = refl; refusal = refl; maps = refl; blocks = refl };

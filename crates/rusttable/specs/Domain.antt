@@ -1,6 +1,6 @@
 -- "The domain of the comparison: histories without numbers 11 to 16 and without an unknown handle, in which a piece that the queue refuses is refused
--- before any other call."; and document 02, P6: "equality covers writes whose offset is a multiple of the block". Here: whether a call on a state is in
--- it, given the reply to the call before; a history is in it where every call is (Histories, HistoryIn). One premise goes beyond these sentences:
+-- before any other call."; and document 02, P6: "equality covers writes whose offset is a multiple of the block". Here: whether a call on a state is
+-- in it, given the reply to the call before; a history is in it where every call is (Histories, HistoryIn). One premise goes beyond these sentences:
 -- `unjoined`, that no further run of a map continues the run before it on the card.
 use mathlib.Core.Path.{_≡_}
 use mathlib.Core.Bool.{Bool, true, false, not, _&&_}
@@ -64,17 +64,17 @@ atOnce before (Call.SetForced h x) = true
 atOnce before (Call.ReportPoison cause) = true
 
 -- "The Rust's `check` lets such a write pass, which goes into the record of differences; equality covers writes whose offset is a multiple of the
--- block." (P6): whatever else the write is turned away by
-unfoldable pub writeOnBlock : State → Call → Bool
-writeOnBlock s (Call.Write q) = onBlock (s .settings .block) (q .offset .0)
-writeOnBlock s (Call.ReadPage q) = true
-writeOnBlock s (Call.Answer qtag a back flushes) = true
-writeOnBlock s (Call.Flushed qtag result) = true
-writeOnBlock s Call.Take = true
-writeOnBlock s (Call.SetGate h x) = true
-writeOnBlock s (Call.SetReadOnly h x) = true
-writeOnBlock s (Call.SetForced h x) = true
-writeOnBlock s (Call.ReportPoison cause) = true
+-- block." (P6): of every write, also of one that another question turns away
+unfoldable pub writeOffsetOnBlock : State → Call → Bool
+writeOffsetOnBlock s (Call.Write q) = onBlock (s .settings .block) (q .offset .0)
+writeOffsetOnBlock s (Call.ReadPage q) = true
+writeOffsetOnBlock s (Call.Answer qtag a back flushes) = true
+writeOffsetOnBlock s (Call.Flushed qtag result) = true
+writeOffsetOnBlock s Call.Take = true
+writeOffsetOnBlock s (Call.SetGate h x) = true
+writeOffsetOnBlock s (Call.SetReadOnly h x) = true
+writeOffsetOnBlock s (Call.SetForced h x) = true
+writeOffsetOnBlock s (Call.ReportPoison cause) = true
 
 -- No further run of a map continues the run before it on the card. The Rust has no other maps: `RegionMap::from_extents` and `extend` join such runs,
 -- and then one piece is issued where document 01's map issues two (docs/DIFFERENCES.md). Smallest input: the figures' opening with the further run
@@ -93,4 +93,4 @@ pub record InDomain (before : Option ℕ) (s : State) (l : Lengths) (c : Call) :
   pub handle : knownHandle s c ≡ true
   pub refusal : atOnce before c ≡ true
   pub maps : unjoined (s .regions) ≡ true
-  pub blocks : writeOnBlock s c ≡ true
+  pub blocks : writeOffsetOnBlock s c ≡ true

@@ -187,11 +187,12 @@ said after s (e ∷ es) = saidBy after (leave s (e .leaves)) (e .made) (next s e
 
 -- ---- the claim
 
--- a history in the domain: every call is, with the tag that the reply before it issued, and the host writes only as document 01 allows. So all of its
--- writes are on the block, and not only the call at hand: behind a write that only the Rust accepts the two tables differ (OffBlock). Nothing else
+-- a history in the domain: every call is, with the tag that the reply before it issued, and the host writes only as document 01 allows. Nothing else
 -- is asked of what the host writes, and so not between a submission and the refusal of its first piece either. There the Rust is within one call: its
 -- table holds no byte of a buffer that the host may write (AsStep, leaves), and the buffer that it hands back is the one that the queue gives back,
 -- with what was written into a read's piece.
+-- So the offset of every write call of the history is on the block, and not only that of the last: behind a write that only the Rust accepts the two
+-- tables differ (OffBlock).
 unfoldable pub MadeIn : Option ℕ → State → Lengths → Made → Type 0
 MadeIn before s l (calls c) = InDomain before s l c
 MadeIn before s l (looks x) = Unit {0}

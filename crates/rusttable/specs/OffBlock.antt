@@ -1,8 +1,7 @@
--- A write off the block: the smallest input of docs/DIFFERENCES.md, and why the domain asks every write of a history. Document 02, P6: "The Rust's `check`
--- lets such a write pass". On the figures' opening a write of 512 at 256, then one of buffer 1 at 512. Here the first gets 9 and changes nothing, and
--- the second has row 0. In the Rust the first has row 0 and its piece is issued, and the second has row 1. The second call by itself is in the domain;
--- the history is not, since its first call is not, and no weaker condition on that call would do: the two tables differ at the end. Proved in
--- proofs/OffBlock.antt (off-block).
+-- A write off the block: the smallest input of docs/DIFFERENCES.md, and why the domain asks the offset of every write of a history. Document 02, P6:
+-- "The Rust's `check` lets such a write pass". On the figures' opening a write of 512 at 256, then one of buffer 1 at 512. Here the first gets 9 and
+-- changes nothing, and the second has row 0. In the Rust the first has row 0 and its piece is issued, and the second has row 1. The second call by
+-- itself is in the domain; the history is not, and must not be: behind the two calls the tables differ. Proved in proofs/OffBlock.antt (off-block).
 use mathlib.Core.Path.{_≡_}
 use mathlib.Core.Bool.{true, false}
 use mathlib.Core.List.{List, [], _∷_, map}
@@ -23,7 +22,8 @@ use Rattle.step.specs.Figures.{figuresOpening, figuresPlan, figuresLengths, fig
 use Rattle.rusttable.specs.Table.{IoBuf, Submitter, Req, Req.WriteAt, Req.ReadAt, Issued, Issued.Submit, Issued.Reject}
 use Rattle.rusttable.specs.Domain.{compared, knownHandle, atOnce, unjoined, InDomain}
 use Rattle.rusttable.specs.Histories.{HandedBack, HandedBack.submits, HandedBack.finishes, HandedBack.takes}
-use Rattle.rusttable.specs.Histories.{rustOpened, rustRun, handed, said, Agrees}
+use Rattle.rusttable.specs.Histories.{rustOpened, rustRun, handed, HistoryIn}
+use Rattle.rusttable.specs.AsStep.{submitterOf}
 
 -- the two calls; the host leaves the pool as it is
 abbrev pub offBlock : Call
@@ -42,7 +42,7 @@ both = quietly offBlock ∷ quietly thenOn ∷ []
 unfoldable pub inRust : Submitter × List HandedBack
 inRust = rustRun (rustOpened figuresOpening (plansIn 1 figuresPlan)) (handed false figuresTable both)
 
--- a piece that the Rust hands its queue: queue tag, card offset, length
+-- a first piece that the Rust hands its queue: queue tag, card offset, length
 unfoldable pub reqAt : ℕ → Req → ℕ × ℕ × ℕ
 reqAt t (WriteAt offset buf) = (t, offset, buf .len)
 reqAt t (ReadAt offset buf) = (t, offset, buf .len)
@@ -51,10 +51,10 @@ unfoldable pub issuedAt : Issued → Option (ℕ × ℕ × ℕ)
 issuedAt (Submit t req) = some (reqAt t req)
 issuedAt (Reject r) = none
 
-unfoldable pub pieceIn : HandedBack → Option (ℕ × ℕ × ℕ)
-pieceIn (submits i) = issuedAt i
-pieceIn (finishes f) = none
-pieceIn (takes c) = none
+unfoldable pub firstPieceIn : HandedBack → Option (ℕ × ℕ × ℕ)
+firstPieceIn (submits i) = issuedAt i
+firstPieceIn (finishes f) = none
+firstPieceIn (takes c) = none
 
 pub record OffBlock : Type 0 where
   -- here: 9 with the region's id, and nothing changes; then tag 0
@@ -62,10 +62,13 @@ pub record OffBlock : Type 0 where
   pub unchanged : next figuresTable (quietly offBlock) ≡ figuresTable
   pub then-tag-0 : replyTo figuresTable (quietly thenOn) ≡ Reply.Piece 0 (offsetOf 1536) 512 1
   -- the Rust: both are issued
-  pub issued : map pieceIn (inRust .1) ≡ some (0, 1280, 512) ∷ some (1, 1536, 512) ∷ []
-  -- the first call is what document 01's domain asks; the second is all that is asked of a call
+  pub issued : map firstPieceIn (inRust .1) ≡ some (0, 1280, 512) ∷ some (1, 1536, 512) ∷ []
+  -- the first call has all that InDomain asks of a call but `blocks`; the second has all of it
   pub but-for-the-block : (compared (step figuresTable figuresLengths offBlock .1) ≡ true) × (knownHandle figuresTable offBlock ≡ true)
       × (atOnce none offBlock ≡ true) × (unjoined (figuresTable .regions) ≡ true)
   pub call-at-hand : InDomain none figuresTable figuresLengths thenOn
-  -- behind them the tables differ
-  pub differ : Agrees inRust (run figuresTable both) (said false figuresTable both) → ⊥
+  -- so the history is not in the domain; and behind it the Rust's table is not the table's, whatever flush count it has
+  pub outside : HistoryIn none figuresTable both → ⊥
+  pub differ : (flushes : ℕ) → inRust .0 ≡ submitterOf (run figuresTable both) flushes → ⊥
+  -- the length is not asked for: a write whose length alone is off the block gets 9 in both, and is in the domain
+  pub length-off-the-block : InDomain none figuresTable figuresLengths (Call.Write (asking 512 100))

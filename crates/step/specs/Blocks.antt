@@ -1,6 +1,6 @@
--- Document 02, P6: "Cards now in use accept only whole blocks at block offsets." So is every piece that a table issues, of a write or of a read, first or
--- later: its offset on the card and its count are multiples of the opening's block. From any opening and after any history, whatever the card answered and
--- whatever the host wrote. Proved in proofs/Blocks.antt (whole-blocks).
+-- Document 02, P6: "Cards now in use accept only whole blocks at block offsets." Such is every piece that a table issues, of a write or of a read,
+-- first or later: its offset on the card and its count are multiples of the opening's block. After any admitted opening and any history, whatever the
+-- card answered and whatever the host wrote. Proved in proofs/Blocks.antt (whole-blocks).
 use mathlib.Core.Path.{_≡_}
 use mathlib.Core.Bool.{true}
 use mathlib.Core.List.{List}

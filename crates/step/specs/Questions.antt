@@ -107,8 +107,8 @@ generationMatches generation c q = ask (eqb (q .generation) generation) (Refusal
 unfoldable pub lengthAbove0 : Context → Request → Asked
 lengthAbove0 c q = ask (ltb 0 (q .length)) (Refusal.Empty c)
 
--- 13. "Is the length a multiple of the block? No: 9 Misaligned." Of a read "for offset and length"; and document 02, P6: "Question 13 for a write tests
--- the offset as well as the length, as it does for a read." So of both it is one question.
+-- 13. "Is the length a multiple of the block? No: 9 Misaligned." Of a read "for offset and length"; and document 02, P6: "Question 13 for a write
+-- tests the offset as well as the length, as it does for a read." So of both it is one question.
 unfoldable pub aligned : ℕ → Context → Request → Asked
 aligned block c q = ask (onBlock block (q .offset .0) && onBlock block (q .length)) (Refusal.Misaligned c)
 

@@ -1,33 +1,35 @@
--- `region::check` meets its contract: each way out knows which test was the first to fail, and the list computes up to there.
-use mathlib.Core.Path.{_≡_, sym, _∙_}
+-- `region::check` meets its contract: the list computes up to the length's question, and what is behind it is asked as one group.
+use mathlib.Core.Path.{_≡_, refl}
+use mathlib.Core.List.{List, _∷_}
 use Prim.Native.Nat.{ℕ, _<_}
 use native.Mathlib.Omega.{arith}
 use borrow.Author.Needs.{needs}
-use borrow.Author.Tests.{lt-ltb, not-true, not-false}
-use Rattle.region.proofs.Groups.{alone}
-use Rattle.step.specs.Questions.{ask, firstNo, lengthAbove0, aligned, withinData}
+use borrow.Author.Tests.{lt-ltb}
+use Rattle.completion.specs.declared.Context.{Context}
+use Rattle.model.specs.declared.Request.{Request}
+use Rattle.model.specs.declared.Asked.{Asked}
+use Rattle.step.specs.Questions.{ask, firstNo, lengthAbove0, withinData}
 use Rattle.region.proofs.check.Statement.{statement}
 use Rattle.region.proofs.check.Tie as tie
 
 some : (n : ℕ) → (n ≡ 0 → ⊥) → 0 < n
 some n h = omega arith
 
+-- a length above 0 leaves the questions behind it
+above-0 : (c : Context) (q : Request) (more : List Asked) → (q .length ≡ 0 → ⊥) → firstNo more ≡ firstNo (lengthAbove0 c q ∷ more)
+unfolding ask firstNo lengthAbove0
+above-0 c q more h = rw (lt-ltb 0 _ (some (q .length) h)) refl
+
 returns : tie.Need-returns
 unfolding ask firstNo lengthAbove0
 returns c = rw (c .if1 .taken)
 
 returns-2 : tie.Need-returns-2
-unfolding ask firstNo lengthAbove0 aligned
+unfolding withinData
 returns-2 c =
-    let tested = c .before .on-block .ensures in
-    rw (lt-ltb 0 _ (some _ (c .before .before .if1 .left)), sym tested ∙ not-true _ (c .if2 .taken))
-
-returns-3 : tie.Need-returns-3
-unfolding ask firstNo lengthAbove0 aligned withinData
-returns-3 c =
     let a = c .before .before .before .before .before .before .args in
-    rw (lt-ltb 0 _ (some _ (c .before .before .before .before .if1 .left)), sym (c .before .before .before .on-block .ensures) ∙ not-false _ (c .before .before .if2 .left))
-    (c .ask .ensures ∙ rw (c .before .within .ensures) (sym (alone (withinData (a .«data») (a .c) (a .q)))))
+    rw (c .both .ensures, c .before .ask .ensures, c .before .before .within .ensures, c .before .before .before .alignment .ensures)
+    (above-0 (a .c) (a .q) _ (c .before .before .before .before .if1 .left))
 
 pub check-spec : {M : Type 1} → statement M
-check-spec = tie.close (tie.spec returns (λ c κs. search needs) returns-2 (λ c κs. search needs) (λ c κs. search needs) returns-3)
+check-spec = tie.close (tie.spec returns (λ c κs. search needs) (λ c κs. search needs) (λ c κs. search needs) (λ c κs. search needs) returns-2)
