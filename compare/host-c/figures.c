@@ -2,7 +2,7 @@
  *
  *     rt staticlib entry && cc compare/host-c/figures.c target/staticlib/libentry.a -o figures && ./figures
  *
- * It prints nothing and ends with 0 where every reply is the paper's. */
+ * It prints nothing and ends with 0 where every reply is the papers'. */
 #include "table.h"
 
 static uint64_t counts[3], rows[16 * 2], store[48 + 70], free_rows[2], ready[1 + 16 * 2], owners[3], out[17];

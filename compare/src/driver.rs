@@ -2,7 +2,7 @@
 //!
 //! A piece that the queue refuses is refused inside `Queue::submit`, so a call that issues a piece is told beforehand
 //! whether the piece is refused; the refusal's own reply waits for the line that says so. What the Rust cannot
-//! express, or what lies outside document 01's domain, ends in `Outside`.
+//! express, or what lies outside the domain of comparison, ends in `Outside`.
 
 use std::collections::BTreeSet;
 use std::sync::atomic::Ordering;
@@ -183,14 +183,14 @@ impl Driver {
         Some(given)
     }
 
-    /// A submission as the Rust gets it: document 02's P6 turns a write off the block away, which `check` lets pass.
+    /// A submission as the Rust gets it: document 02's P6 asks the offset of a write too, which `check` does not.
     fn on_block(&self, s: &Submission) -> Result<Submission, Stop> {
         let (block, capacity) = (self.opening.open.block, self.opening.open.capacity);
-        let passes = s.write && !s.position.is_multiple_of(block);
+        let off = s.write && !s.position.is_multiple_of(block);
         match self.reach {
-            Reach::Domain if passes => Err(Outside("a write off the block, which the Rust lets pass (P6)")),
+            Reach::Domain if off => Err(Outside("a write off the block (P6)")),
             // One byte less is off the block, not empty, and within the capacity as before.
-            Reach::OffBlock if passes && (1..=capacity).contains(&s.length) && s.length.is_multiple_of(block) => {
+            Reach::OffBlock if off && (1..=capacity).contains(&s.length) && s.length.is_multiple_of(block) => {
                 Ok(Submission { length: s.length - 1, ..s.clone() })
             }
             _ => Ok(s.clone()),

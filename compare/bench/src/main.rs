@@ -96,6 +96,7 @@ fn main() {
     for depth in [1, 64, 4096] {
         operations(depth, 65_536 - 4096, 8192, 2, "write of 8,192 in two pieces");
     }
+    // A table turns by whole blocks; the turns by 256 and by 1 are of the function by itself.
     for (n, k) in [(512, 256), (4096, 512), (8192, 4096), (8192, 512), (65_536, 512), (65_536, 32_768), (4096, 1), (65_536, 1)] {
         turns(n, k);
     }
