@@ -11,9 +11,9 @@ use Rattle.completion.specs.Numbers.{number}
 use Rattle.model.specs.State.{freed, upFrom}
 use Rattle.model.specs.Opening.{atFirst, opened, planIn, plansIn}
 use Rattle.step.specs.Questions.{ask, firstNo, handleNamesRegion, bufferInPool, isHost, heldAt, hostHoldsBuffer, roomInTable, lifetimeLeft, gateOpen, storeWritable, unpoisoned}
-use Rattle.step.specs.Questions.{regionWritable, volumeAndRegionMatch, generationMatches, lengthAbove0, aligned, withinData, regionAt, writeQuestions}
+use Rattle.step.specs.Questions.{regionWritable, volumeAndRegionMatch, generationMatches, lengthAbove0, aligned, withinData, regionAt, writeQuestions, readQuestions, rangeFrom}
 use Rattle.step.specs.Rules.{firstOf, pieceOf}
-use Rattle.step.specs.Step.{durableAs, claimedBy, oneMore, accepted, planOf, asksFor, queueTag, topOf, rowAt, verdictOf, writeVerdict, submitted, eqLengths, called, step}
+use Rattle.step.specs.Step.{durableAs, claimedBy, oneMore, accepted, planOf, asksFor, queueTag, topOf, rowAt, verdictOf, writeVerdict, readVerdict, submitted, eqLengths, called, step}
 use Rattle.step.specs.Run.{leave, done, next, replyTo, run}
 use Rattle.step.specs.Figures.{figuresOpening, figuresPlan, figuresLengths, figuresTable, asking, inBuffer}
 use Rattle.rusttable.specs.Table.{Submitter}
@@ -43,9 +43,9 @@ pub off-block : OffBlock
 unfolding inRust rustRun rustStep rustOpened handed handedBy verdict verdictAs refusedBy isSubmission bufOf posOf leave done next replyTo reqAt issuedAt firstPieceIn HistoryIn MadeIn
     given tried «set_len» ctx «ctx_range» rustUnpoisoned ready «ready_for» enter owns emptyRow new full popped claim rowWith withRows start withTable check «first_piece» admit withOrNot submit issue toldAs issuedWith write
     rustRunAt searched «run_of» locate «run_end» «run_left» figuresOpening figuresPlan figuresLengths figuresTable asking inBuffer firstOf pieceOf number
-    durableAs claimedBy oneMore accepted planOf asksFor queueTag topOf rowAt verdictOf writeVerdict submitted eqLengths called step
+    durableAs claimedBy oneMore accepted planOf asksFor queueTag topOf rowAt verdictOf writeVerdict readVerdict submitted eqLengths called step
     ask firstNo handleNamesRegion bufferInPool isHost heldAt hostHoldsBuffer roomInTable lifetimeLeft gateOpen storeWritable unpoisoned
-    regionWritable volumeAndRegionMatch generationMatches lengthAbove0 aligned withinData regionAt writeQuestions
+    regionWritable volumeAndRegionMatch generationMatches lengthAbove0 aligned withinData regionAt writeQuestions readQuestions rangeFrom
     planIn plansIn atFirst opened freed upFrom runsIn mapIn spanFrom runOf runEnd runLeft place pieceSize pick onBlock
     compared knownHandle atOnce writeOffsetOnBlock unjoinedFrom unjoined
 off-block = record {
@@ -58,4 +58,5 @@ off-block = record {
   outside = λ h. not-both (h .1 .blocks) refl;
   differ = λ n e. omega (arith, sym two-live ∙ ap (λ (r : Submitter). r .table .live) e ∙ one-live n);
   length-off-the-block = record { numbers = refl; handle = refl; refusal = refl; maps = refl; blocks = refl };
+  read-off-the-block = record { numbers = refl; handle = refl; refusal = refl; maps = refl; blocks = refl };
 }

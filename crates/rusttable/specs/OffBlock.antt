@@ -8,18 +8,16 @@ use mathlib.Core.List.{List, [], _∷_, map}
 use mathlib.Core.Option.{Option, none, some}
 use Prim.Native.Nat.{ℕ}
 use Rattle.regionmap.specs.Words.{offsetOf}
-use Rattle.completion.specs.declared.{Reply.Reply, Context.Context}
 use Rattle.completion.specs.declared.Context.the-variants as Context
 use Rattle.completion.specs.declared.Refusal.the-variants as Refusal
 use Rattle.completion.specs.declared.Reply.the-variants as Reply
 use Rattle.model.specs.declared.Call.{Call}
 use Rattle.model.specs.declared.Call.the-variants as Call
-use Rattle.model.specs.State.{State}
 use Rattle.model.specs.Opening.{plansIn}
 use Rattle.step.specs.Run.{Made.calls, Event, next, replyTo, run}
 use Rattle.step.specs.Step.{step}
 use Rattle.step.specs.Figures.{figuresOpening, figuresPlan, figuresLengths, figuresTable, asking, inBuffer}
-use Rattle.rusttable.specs.Table.{IoBuf, Submitter, Req, Req.WriteAt, Req.ReadAt, Issued, Issued.Submit, Issued.Reject}
+use Rattle.rusttable.specs.Table.{Submitter, Req, Req.WriteAt, Req.ReadAt, Issued, Issued.Submit, Issued.Reject}
 use Rattle.rusttable.specs.Domain.{compared, knownHandle, atOnce, unjoined, InDomain}
 use Rattle.rusttable.specs.Histories.{HandedBack, HandedBack.submits, HandedBack.finishes, HandedBack.takes}
 use Rattle.rusttable.specs.Histories.{rustOpened, rustRun, handed, HistoryIn}
@@ -70,5 +68,6 @@ pub record OffBlock : Type 0 where
   -- so the history is not in the domain; and behind it the Rust's table is not the table's, whatever flush count it has
   pub outside : HistoryIn none figuresTable both → ⊥
   pub differ : (flushes : ℕ) → inRust .0 ≡ submitterOf (run figuresTable both) flushes → ⊥
-  -- the length is not asked for: a write whose length alone is off the block gets 9 in both, and is in the domain
+  -- no more is left out than that: a write whose length alone is off the block is in the domain, and so is a read off it (both get 9, AsStep)
   pub length-off-the-block : InDomain none figuresTable figuresLengths (Call.Write (asking 512 100))
+  pub read-off-the-block : InDomain none figuresTable figuresLengths (Call.ReadPage (asking 256 512))
