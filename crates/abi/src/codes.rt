@@ -9,28 +9,28 @@ use platform::{Answer, Flushed};
 use regionmap::Position;
 
 // An answer, or a form that names none.
-#[derive(Drop)]
+#[derive(Clone, Copy)]
 pub enum AnswerForm {
     Known(Answer),
     Unknown,
 }
 
 // A flush result, or a form that names none.
-#[derive(Drop)]
+#[derive(Clone, Copy)]
 pub enum FlushedForm {
     Known(Flushed),
     Unknown,
 }
 
 // A gate, or a code that names none.
-#[derive(Drop)]
+#[derive(Clone, Copy)]
 pub enum GateForm {
     Known(Gate),
     Unknown,
 }
 
 // A cause, or an operation's code that names none.
-#[derive(Drop)]
+#[derive(Clone, Copy)]
 pub enum CauseForm {
     Known(FirstCause),
     Unknown,

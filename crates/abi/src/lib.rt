@@ -2,6 +2,8 @@
 // codes: what a code of the host names, or that it names nothing.
 // replies: the reply to a call as 17 words.
 // rows: rows as words, 16 each.
+#![tactic(auto)]
+
 pub mod codes;
 pub mod replies;
 pub mod rows;

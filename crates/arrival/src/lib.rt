@@ -7,6 +7,8 @@
 // release   an operation is over
 // take      the oldest completion is taken
 // underway  which operation it is, and which piece is under way
+#![tactic(auto)]
+
 pub mod abort;
 pub mod advance;
 pub mod carry;
@@ -25,7 +27,7 @@ use platform::{Answer, Flushed};
 use settle::Finished;
 
 // What arrives under a queue tag: an answer, with whether the buffer came back and the host's flush count, or a flush result.
-#[derive(Drop)]
+#[derive(Clone, Copy)]
 pub enum Arrived {
     Answer {
         answer: Answer,

@@ -1,12 +1,14 @@
 // What is handed back to the host (store-io's completion.rs, with the ticket and the receipt of receipt.rs and the contexts of io.rs):
 // completions, and the reply to each call. specs/Numbers.antt lists document 01's number for each case that has one.
+#![tactic(auto)]
+
 pub mod refusals;
 
 use domain::{FirstCause, Op, OsError};
 use regionmap::{Offset, Position};
 
 // A write that completed in full, as io.rs's `ticket` makes it.
-#[derive(Drop)]
+#[derive(Clone, Copy)]
 pub struct WriteTicket {
     pub volume: u64,
     pub region: u64,
@@ -18,7 +20,7 @@ pub struct WriteTicket {
 }
 
 // A receipt, as io.rs's `receipt_for` makes it of a ticket; "untorn and prefix are false".
-#[derive(Drop)]
+#[derive(Clone, Copy)]
 pub struct DurableReceipt {
     pub volume: u64,
     pub region: u64,
@@ -35,7 +37,7 @@ pub struct DurableReceipt {
 }
 
 // "the region and the operation's whole range"
-#[derive(Drop)]
+#[derive(Clone, Copy)]
 pub struct Range {
     pub region: u64,
     pub start: Position,
@@ -43,7 +45,7 @@ pub struct Range {
 }
 
 // What an operation came to.
-#[derive(Drop)]
+#[derive(Clone, Copy)]
 pub enum Outcome {
     Written(WriteTicket),
     Receipt(WriteTicket, DurableReceipt),
@@ -57,14 +59,14 @@ pub enum Outcome {
 }
 
 // The operation's buffer, with its length, or that it did not come back.
-#[derive(Drop)]
+#[derive(Clone, Copy)]
 pub enum Buffer {
     Back { buffer: u64, len: u64 },
     Lost,
 }
 
 // One finished operation: the host's tag, what it came to, and its buffer.
-#[derive(Drop)]
+#[derive(Clone, Copy)]
 pub struct Completion {
     pub tag: u64,
     pub outcome: Outcome,
@@ -72,7 +74,7 @@ pub struct Completion {
 }
 
 // "Context is the region's id. Questions 12 to 14 of a read add the range"; some have none (D-20).
-#[derive(Drop)]
+#[derive(Clone, Copy)]
 pub enum Context {
     None,
     Region(u64),
@@ -80,7 +82,7 @@ pub enum Context {
 }
 
 // Why a call is turned away: store-io's names, and a name for each number that document 01 adds.
-#[derive(Drop)]
+#[derive(Clone, Copy)]
 pub enum Refusal {
     ForeignPosition(Context),
     ForeignBuffer(Context),
@@ -102,7 +104,7 @@ pub enum Refusal {
 }
 
 // The reply to a call.
-#[derive(Drop)]
+#[derive(Clone, Copy)]
 pub enum Reply {
     // "The reply is the first piece: card offset, buffer, count"; likewise the next piece.
     Piece {

@@ -7,7 +7,7 @@ use crate::{Context, Refusal};
 use domain::FirstCause;
 
 // What a refusal tells besides its number.
-#[derive(Drop)]
+#[derive(Clone, Copy)]
 pub enum Told {
     Context(Context),
     Cause(FirstCause),

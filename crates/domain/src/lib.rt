@@ -1,9 +1,11 @@
 // What poisons a store, and the number of the flush that a write needs (store-io's domain/mod.rs: poison and ticket only).
+#![tactic(auto)]
+
 ghost use Rattle.std.specs.Prelude.{◌≡◌};
 ghost use Rattle.domain.specs.Domain.{first_kept, need_after};
 
 // "A cause is an operation (none, read, write or flush) with an OS error or none."
-#[derive(Drop)]
+#[derive(Clone, Copy)]
 pub enum Op {
     None,
     Read,
@@ -12,21 +14,21 @@ pub enum Op {
 }
 
 // "OS errors are carried as unsigned 32-bit numbers", or there is none.
-#[derive(Drop)]
+#[derive(Clone, Copy)]
 pub enum OsError {
     None,
     Raw(u32),
 }
 
 // A cause; the name is the Rust's, though causes that were not first are of this type too.
-#[derive(Drop)]
+#[derive(Clone, Copy)]
 pub struct FirstCause {
     pub op: Op,
     pub raw: OsError,
 }
 
 // Whether the store is poisoned, and by which cause first.
-#[derive(Drop)]
+#[derive(Clone, Copy)]
 pub enum Poisoned {
     Never,
     First(FirstCause),

@@ -4,6 +4,8 @@
 // settings: a region's settings and the report of poison.
 // wholerows: that row memory in words is whole rows; opening and lookup.
 // words: counts and rows put into their words, opening and lookup over whole rows.
+#![tactic(auto)]
+
 pub mod calls;
 pub mod settings;
 pub mod wholerows;

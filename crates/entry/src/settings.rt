@@ -11,7 +11,7 @@ use model::{Gate, Row};
 use optable::touched::Touched;
 
 // What is set or reported.
-#[derive(Drop)]
+#[derive(Clone, Copy)]
 pub enum Setting {
     Gate { handle: u64, gate: Gate },
     ReadOnly { handle: u64, on: bool },

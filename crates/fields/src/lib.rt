@@ -1,6 +1,8 @@
 // The fields of a line of a trace: they stand between single spaces, and numbers are decimal digits.
 // reader: a line's bytes as they arrive, of which the first 4,096 are kept.
 // words: fields as words, as numbers and as flags.
+#![tactic(auto)]
+
 pub mod reader;
 pub mod words;
 
@@ -8,7 +10,7 @@ ghost use Rattle.std.specs.Prelude.{◌≡◌, ◌+◌, ◌≤◌, length, get_o
 ghost use Rattle.fields.specs.Fields.{spaces, field, number_in};
 
 // What a field holds: whether it is a number, and which (0 where it is none).
-#[derive(Drop)]
+#[derive(Clone, Copy)]
 pub struct Field {
     pub is: bool,
     pub value: u64,

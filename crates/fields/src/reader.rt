@@ -4,14 +4,14 @@ ghost use Rattle.std.specs.Prelude.{◌≡◌, List, [], ◌∷◌, ◌++◌, �
 ghost use Rattle.fields.specs.Trace.{Kept, front_of};
 
 // How many bytes of a line are kept, and whether there were more.
-#[derive(Drop)]
+#[derive(Clone, Copy)]
 pub struct Reader {
     pub kept: usize,
     pub long: bool,
 }
 
 // How a line is read once all its bytes are there: as a comment, as a bad line, or by as many of its first bytes.
-#[derive(Drop)]
+#[derive(Clone, Copy)]
 pub enum Front {
     Comment,
     Bad,

@@ -1,4 +1,6 @@
 // The input, cut at LF, a line at a time; "lines end in LF, the last one's end may be missing".
+#![tactic(auto)]
+
 ghost use Rattle.std.specs.Prelude.{◌≡◌, ℕ, ◌≤◌, false, ◌&&◌, List, length, take, drop, ◌==◌, nat_lt};
 ghost use Rattle.input.specs.Input.{Scanned, Fresh, Read, Next, Begun};
 
@@ -6,7 +8,7 @@ use fields::reader::Reader;
 
 // Where the input stands: the line as far as it was read, its number, whether it is complete, what is left of the bytes read last, and whether the
 // input has ended.
-#[derive(Drop)]
+#[derive(Clone, Copy)]
 pub struct Input {
     pub reader: Reader,
     pub number: u64,

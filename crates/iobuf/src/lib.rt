@@ -4,6 +4,8 @@
 // moves     bytes moved within a slice
 // rotation  a slice turned by exchanging its sides
 // shift     the same where one side is short
+#![tactic(auto)]
+
 pub mod moves;
 pub mod rotation;
 pub mod shift;

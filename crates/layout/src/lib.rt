@@ -1,5 +1,7 @@
 // The block (store-io's layout.rs): "Block is a power of two, 512 to 65,536", and what counts in blocks is a multiple of it. Every
 // function is total, on the block 0 too. At the end, the small functions on numbers and tests that every crate above uses.
+#![tactic(auto)]
+
 ghost use Rattle.std.specs.Prelude.{◌≡◌, ◌&&◌, ◌||◌};
 ghost use Prim.Native.Nat;
 ghost use Prim.Native.Nat.{◌-◌};

@@ -3,6 +3,8 @@
 //
 // gate    the calls that set a region's gate, its read-only or its forced mark
 // poison  the store's poison, and the call that reports it
+#![tactic(auto)]
+
 pub mod gate;
 pub mod poison;
 

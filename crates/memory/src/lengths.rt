@@ -47,7 +47,7 @@ pub fn fits(
 }
 
 // Whether what is lent has the lengths of the opening, and the depth of the table then.
-#[derive(Drop)]
+#[derive(Clone, Copy)]
 pub struct Fit {
     pub fits: bool,
     pub depth: usize,

@@ -7,6 +7,8 @@
 // liveregion  a region's record, and the store's poison
 // piece       a piece, found by its region's map
 // settings    the opening's numbers
+#![tactic(auto)]
+
 pub mod causes;
 pub mod fill;
 pub mod lengths;

@@ -9,7 +9,7 @@ use domain::Poisoned;
 use model::Gate;
 
 // What a submission is asked about its region: LiveRegion without its map, which stays where it lies (D-5).
-#[derive(Drop)]
+#[derive(Clone, Copy)]
 pub struct LiveRegion {
     pub id: u64,
     pub generation: u64,

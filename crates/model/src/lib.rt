@@ -1,26 +1,28 @@
 // The table as data: what a row holds, the counts, what an opening is given (store-io's optable.rs and store.rs have them as Row, Live,
 // Kind, Split, Table and Inner). The state, the calls and what they do are definitions in specs/; the crates above run them.
+#![tactic(auto)]
+
 use completion::{Refusal, WriteTicket};
 use domain::FirstCause;
 use platform::{Answer, Flushed};
 use regionmap::{FoundPiece, Position};
 
 // What an operation in flight is, in the region's positions (optable.rs's Kind, without appends and barriers): Page is a write.
-#[derive(Drop)]
+#[derive(Clone, Copy)]
 pub enum Kind {
     Page { start: Position, end: Position },
     Read { start: Position, end: Position },
 }
 
 // The operation's length, and the bytes done before the piece in flight (optable.rs's Split).
-#[derive(Drop)]
+#[derive(Clone, Copy)]
 pub struct Split {
     pub total: u64,
     pub done: u64,
 }
 
 // "a row says what it awaits, nothing, a piece or a flush"
-#[derive(Drop)]
+#[derive(Clone, Copy)]
 pub enum Awaits {
     Nothing,
     Piece(Kind, Split),
@@ -28,7 +30,7 @@ pub enum Awaits {
 }
 
 // One row (optable.rs's Row and Live). A row that awaits nothing keeps only its generation: the rest is zero (D-4, D-11).
-#[derive(Drop)]
+#[derive(Clone, Copy)]
 pub struct Row {
     pub generation: u32,
     pub tag: u64,
@@ -40,7 +42,7 @@ pub struct Row {
 }
 
 // "the counts of live rows, ready completions and submissions"; submissions is the next sequence number.
-#[derive(Drop)]
+#[derive(Clone, Copy)]
 pub struct Counts {
     pub live: u64,
     pub ready: u64,
@@ -48,7 +50,7 @@ pub struct Counts {
 }
 
 // A region's gate: open, or closed for the reason why.
-#[derive(Drop)]
+#[derive(Clone, Copy)]
 pub enum Gate {
     Open,
     Recycled,
@@ -56,7 +58,7 @@ pub enum Gate {
 }
 
 // The numbers of an opening. `regions` is how many regions the plan lists.
-#[derive(Drop)]
+#[derive(Clone, Copy)]
 pub struct Opening {
     pub block: u64,
     pub depth: u64,
@@ -74,7 +76,7 @@ pub struct Opening {
 }
 
 // The lengths of all that is lent: the row memory's parts, and the pool.
-#[derive(Drop)]
+#[derive(Clone, Copy)]
 pub struct Lengths {
     pub rows: u64,
     pub store: u64,
@@ -85,7 +87,7 @@ pub struct Lengths {
 }
 
 // "A request names a region handle, a position (volume, region, generation, offset), a buffer, its length, plain or durable, and the host's tag."
-#[derive(Drop)]
+#[derive(Clone, Copy)]
 pub struct Request {
     pub handle: u64,
     pub volume: u64,
@@ -99,7 +101,7 @@ pub struct Request {
 }
 
 // What a host calls, once a table is open; the lookups are apart, as they change nothing (D-25).
-#[derive(Drop)]
+#[derive(Clone, Copy)]
 pub enum Call {
     Write(Request),
     ReadPage(Request),
@@ -133,21 +135,21 @@ pub enum Call {
 }
 
 // "lookups: whether a write still awaits a piece; the mark"
-#[derive(Drop)]
+#[derive(Clone, Copy)]
 pub enum Lookup {
     WritesLive,
     Mark,
 }
 
 // How a question, or several in their order, are answered: yes to all, or the first no.
-#[derive(Drop)]
+#[derive(Clone, Copy)]
 pub enum Asked {
     Yes,
     No(Refusal),
 }
 
 // What a submission comes to: turned away, or accepted in the row on top of the free stack, as this kind of operation, with this first piece.
-#[derive(Drop)]
+#[derive(Clone, Copy)]
 pub enum Verdict {
     No(Refusal),
     Accept {

@@ -9,7 +9,7 @@ ghost use Rattle.model.specs.Opening.{all_extents, plans_in, REGION};
 use memory::REGION;
 
 // The card bytes of a run: its offset there, and how many they are.
-#[derive(Drop)]
+#[derive(Clone, Copy)]
 struct CardRun {
     offset: u64,
     size: u64,

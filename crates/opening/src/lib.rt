@@ -5,6 +5,8 @@
 // numbers  the rules on the opening's own numbers, and on lengths
 // plans    the rules on the regions that a plan lists
 // store    the table, written into what is lent
+#![tactic(auto)]
+
 pub mod extents;
 mod numbers;
 pub mod plans;
@@ -41,7 +43,7 @@ pub fn admits(o: Opening, plan: &[u64], l: Lengths) -> bool
 }
 
 // The reply to an opening: the table's counts, or 13.
-#[derive(Drop)]
+#[derive(Clone, Copy)]
 pub enum Opened {
     Table(Counts),
     No(Refusal),

@@ -5,6 +5,8 @@
 // rows     the rows, lent
 // start    whether there is room, and the row and tag of an accepted operation
 // touched  what a call leaves of the row that it touches, and which row that is
+#![tactic(auto)]
+
 pub mod counts;
 pub mod lookup;
 pub mod rows;
@@ -57,7 +59,7 @@ pub fn accepted(c: Counts, accepts: bool) -> Counts
 
 // What a call frees of the counts: nothing; a live row whose first piece was refused; a live row whose completion is ready; a completion that
 // is taken.
-#[derive(Drop)]
+#[derive(Clone, Copy)]
 pub enum Frees {
     Nothing,
     Rejected,

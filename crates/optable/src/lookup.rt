@@ -8,7 +8,7 @@ use completion::{Refusal, Reply};
 use model::{Awaits, Counts, Kind, Lookup, Row};
 
 // What a walk through the rows finds: whether a write awaits a piece, and the oldest live sequence number.
-#[derive(Drop)]
+#[derive(Clone, Copy)]
 pub struct Looked {
     pub writes: bool,
     pub oldest: u64,

@@ -9,7 +9,7 @@ use completion::{Refusal, Reply};
 use model::{Call, Counts, Row};
 
 // The row as it becomes, whether the counts accept an operation, what they free, and the reply.
-#[derive(Drop)]
+#[derive(Clone, Copy)]
 pub struct Touched {
     pub row: Row,
     pub accepts: bool,

@@ -1,6 +1,8 @@
 // optrun: document 01's opening and a flush count of 0. It reads lines from standard input and answers each: `piece QTAG OFFSET COUNT`, `no` and the
 // number, what a taking took, or `bad` and the line's number. What a line says and how it is answered stands in the crate runner; here
 // lines are read until the input ends.
+#![tactic(auto)]
+
 use opening::Opened;
 use runner::turn::Running;
 

@@ -8,7 +8,7 @@ use model::{Call, Lookup};
 use platform::Answer;
 
 // What a line says.
-#[derive(Drop)]
+#[derive(Clone, Copy)]
 pub enum Said {
     // "A line that starts with `#` is passed over"
     Comment,

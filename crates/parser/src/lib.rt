@@ -5,6 +5,8 @@
 // preamble: the lines `open`, `region` and `start`.
 // requests: the call that a line asks for.
 // values: OS errors, gates, flags, operations, causes and requests in a line's fields.
+#![tactic(auto)]
+
 pub mod calls;
 pub mod forms;
 pub mod lines;

@@ -9,7 +9,7 @@ pub use crate::preamble::plan::add_region;
 use model::Opening;
 
 // What a line of an opening says; what a `region` says is put into the plan by `add_region`.
-#[derive(Drop)]
+#[derive(Clone, Copy)]
 pub enum OpenLine {
     // "A line that starts with `#` is passed over"
     Comment,

@@ -8,7 +8,7 @@ use platform::Answer;
 use regionmap::Position;
 
 // What `w` and `r` name: "handle 0, with its own volume, id and generation".
-#[derive(Drop)]
+#[derive(Clone, Copy)]
 pub struct Named {
     pub volume: u64,
     pub region: u64,
@@ -16,7 +16,7 @@ pub struct Named {
 }
 
 // What a line asks for: nothing, a call, or what no call is.
-#[derive(Drop)]
+#[derive(Clone, Copy)]
 pub enum Asks {
     Nothing,
     Call(Call),

@@ -10,6 +10,8 @@
 // rows: what replay prints of the rows.
 // short: what optrun prints of a reply.
 // output: what replay prints of a line, from the front of its buffer.
+#![tactic(auto)]
+
 pub mod bytes;
 pub mod causes;
 pub mod lines;

@@ -2,6 +2,8 @@
 // touches. A call with other lengths than the opening's is turned away here.
 //
 // dispatch  which function a call goes to
+#![tactic(auto)]
+
 pub mod dispatch;
 
 ghost use Rattle.optable.specs.Called.{TouchesTo};

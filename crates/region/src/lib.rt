@@ -2,6 +2,8 @@
 //
 // ready    contexts, and whether the store and the region may be written
 // receipt  the receipt of a durable write
+#![tactic(auto)]
+
 pub mod ready;
 pub mod receipt;
 

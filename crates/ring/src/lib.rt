@@ -5,6 +5,8 @@
 // encode   the 16 words of a completion
 // oldest   the oldest completion
 // publish  a completion becomes ready
+#![tactic(auto)]
+
 pub mod decode;
 pub mod encode;
 pub mod oldest;

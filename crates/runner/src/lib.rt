@@ -1,5 +1,7 @@
 // A line of optrun is answered by a table: the call that it asks for, and the line that is printed. The table is that of document 01's figures, whose
 // requests "name the opening's volume, region and generation".
+#![tactic(auto)]
+
 pub mod turn;
 
 ghost use Rattle.std.specs.Prelude.{◌≡◌, ◌≤◌, take};
@@ -13,7 +15,7 @@ use parser::requests::{Asks, Named};
 use submitter::host::CalledIn;
 
 // The rows, the counts and how many bytes are to be printed.
-#[derive(Drop)]
+#[derive(Clone, Copy)]
 pub struct Answered {
     pub rows: [Row; 64],
     pub counts: Counts,

@@ -12,7 +12,7 @@ use input::Input;
 use model::{Counts, Row};
 
 // The table's rows and counts, and where the input stands.
-#[derive(Drop)]
+#[derive(Clone, Copy)]
 pub struct Running {
     pub rows: [Row; 64],
     pub counts: Counts,

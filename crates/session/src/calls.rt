@@ -7,7 +7,7 @@ use model::{Call, Counts, Row};
 use parser::requests::{Asks, Named};
 
 // The rows, the counts, "the flush count last given" and how many bytes are to be printed.
-#[derive(Drop)]
+#[derive(Clone, Copy)]
 pub struct Answered {
     pub rows: [Row; 64],
     pub counts: Counts,

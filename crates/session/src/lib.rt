@@ -7,6 +7,8 @@
 // hostlines: `fill`, `sum` and `rows`.
 // turn: a turn of a program, which goes on in the input and prints the answer.
 // program: the programs themselves.
+#![tactic(auto)]
+
 pub mod body;
 pub mod calls;
 pub mod hostlines;
@@ -26,7 +28,7 @@ use fields::reader::Reader;
 use model::{Counts, Opening, Row};
 
 // Where a trace stands.
-#[derive(Drop)]
+#[derive(Clone, Copy)]
 pub enum Stage {
     // No `open` yet.
     Before,
@@ -41,7 +43,7 @@ pub enum Stage {
 }
 
 // The stage that follows a line, what is held by value between two lines, and how many bytes are to be printed.
-#[derive(Drop)]
+#[derive(Clone, Copy)]
 pub struct Answered {
     pub stage: Stage,
     pub rows: [Row; 64],

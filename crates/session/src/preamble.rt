@@ -9,7 +9,7 @@ pub use crate::preamble::planned::planned_line;
 pub use crate::preamble::start::say_no;
 
 // The stage that follows, and how many bytes are to be printed.
-#[derive(Drop)]
+#[derive(Clone, Copy)]
 pub struct Follows {
     pub stage: Stage,
     pub printed: usize,

@@ -8,7 +8,7 @@ use model::{Lengths, Opening, Row};
 use opening::Opened;
 
 // What became of an opening.
-#[derive(Drop)]
+#[derive(Clone, Copy)]
 pub enum Started {
     Table,
     // "breaks a rule"
@@ -18,7 +18,7 @@ pub enum Started {
 }
 
 // The rows after `start`, and what became of the opening.
-#[derive(Drop)]
+#[derive(Clone, Copy)]
 pub struct StartedIn {
     pub rows: [Row; 64],
     pub started: Started,

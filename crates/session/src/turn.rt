@@ -10,7 +10,7 @@ use input::Input;
 use model::{Counts, Row};
 
 // Where the trace stands, what is held by value, and where the input stands.
-#[derive(Drop)]
+#[derive(Clone, Copy)]
 pub struct Running {
     pub stage: Stage,
     pub rows: [Row; 64],

@@ -6,6 +6,8 @@
 // finish     an answer
 // flushed    a flush result
 // lastpiece  the end with the last piece
+#![tactic(auto)]
+
 pub mod answer;
 pub mod conclude;
 pub mod finish;
@@ -22,14 +24,14 @@ use model::{Awaits, Split};
 use platform::Answer;
 
 // The first bytes of the operation's buffer, as many as its length, turn left by so much (D-29).
-#[derive(Drop)]
+#[derive(Clone, Copy)]
 pub struct Turn {
     pub total: u64,
     pub by: u64,
 }
 
 // What ends an operation: its outcome, its buffer, how the bytes there turn, and the cause with which the store is poisoned, if any.
-#[derive(Drop)]
+#[derive(Clone, Copy)]
 pub struct End {
     pub outcome: Outcome,
     pub buf: Buffer,
@@ -39,7 +41,7 @@ pub struct End {
 
 // What becomes of an operation (Finish of optable.rs, where a function has the name too): turned away; it awaits its next piece or its flush; it
 // is complete, and may poison the store; its first piece is refused.
-#[derive(Drop)]
+#[derive(Clone, Copy)]
 pub enum Finished {
     Away(Refusal),
     Next { awaits: Awaits, turn: Turn },

@@ -4,6 +4,8 @@
 // admit      questions 2 to 6
 // issue      what a verdict leaves
 // questions  the questions in their order
+#![tactic(auto)]
+
 pub mod admit;
 pub mod issue;
 pub mod questions;

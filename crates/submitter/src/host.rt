@@ -11,14 +11,14 @@ use opening::Opened;
 use optable::lookup::Looked;
 
 // The rows after an opening, and its reply.
-#[derive(Drop)]
+#[derive(Clone, Copy)]
 pub struct OpenedIn {
     pub rows: [Row; 64],
     pub opened: Opened,
 }
 
 // The rows and the counts after a call, and its reply.
-#[derive(Drop)]
+#[derive(Clone, Copy)]
 pub struct CalledIn {
     pub rows: [Row; 64],
     pub counts: Counts,

@@ -2,6 +2,8 @@
 // call decides is decided in queuecore, on values and words.
 //
 // host  the same for a program in Rattle that holds rows and counts by value
+#![tactic(auto)]
+
 pub mod host;
 
 ghost use Rattle.optable.specs.Called.{lent_of, CallsTo, LooksTo};
