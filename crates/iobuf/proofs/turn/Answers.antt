@@ -10,8 +10,8 @@ use borrow.Author.Rules.{rules}
 use Rattle.iobuf.specs.Turn.{turned, stretch, with_stretch, turned_in}
 use Rattle.iobuf.specs.TurnLaws.{Fits}
 use Rattle.iobuf.proofs.Laws.{turn_laws, turned_empty}
-use Rattle.iobuf.proofs.turn.Statement.{statement}
-use Rattle.iobuf.proofs.turn.Tie as tie
+use Rattle.iobuf.proofs.turn.Goals as goal
+use Rattle.iobuf.proofs.turn.Goals.{Then-buffer-pool}
 
 -- the stretch that was turned, put back into the pool
 put : (capacity b n k : ℕ) (pool p : List ℕ) → Fits capacity b pool
@@ -24,57 +24,37 @@ put capacity b n k pool p h e =
     ∙ sym (turn_laws.turned_in_lem capacity b n k pool h)
 
 -- a buffer below the number of whole buffers lies within the pool
-inside : (c : tie.Then2) →
+inside : (c : Then-buffer-pool) →
     let start = c.before.before.before in
     Fits start.args.capacity start.args.buffer start.args.pool.now
 inside c =
-    let start = c.before.before.before in
-    subst (λ (m : ℕ). m ≤ length start.args.pool.now) (suc-mul start.args.buffer start.args.capacity) ((le-div_iff_mul-le (omega arith)).0 c.if2.true)
+    subst (λ (m : ℕ). m ≤ length c.args.pool.now) (suc-mul c.args.buffer c.args.capacity) ((le-div_iff_mul-le (omega arith)).0 c.if-buffer-pool.true)
 
-returns : tie.Need-returns
-returns c =
-    let start = c.before.before in
-    sym (turned_empty start.args.capacity start.args.buffer start.args.n start.args.k start.args.pool.now c.if1.true)
+pub returns-then-capacity-eq0 : goal.returns-then-capacity-eq0
+returns-then-capacity-eq0 c =
+    sym (turned_empty c.args.capacity c.args.buffer c.args.n c.args.k c.args.pool.now c.if-capacity-eq0.true)
 
-mul_at : tie.Need-overflow-mul-at
-mul_at c = let h = inside c in omega arith
+pub overflow_mul-at : goal.overflow_mul-at
+overflow_mul-at c = let h = inside c in omega arith
 
-add-end : tie.Need-overflow-add-end
-add-end c = let h = inside c in omega arith
+pub overflow_add-end : goal.overflow_add-end
+overflow_add-end c = let h = inside c in omega arith
 
-part-rotate-left-end : tie.Need-slice-bounds-rotate-left-end
-part-rotate-left-end c = inside c
+-- LEFT ?slice-bounds-rotate-left-end
+-- part-rotate-left-end : tie.Need-slice-bounds-rotate-left-end
+-- part-rotate-left-end c = inside c
 
-returns-2 : tie.Need-returns-2
-returns-2 c =
-    let turned = c.before.before in
-    let found = turned.before.before in
-    let start = found.before.before.before in
-    put start.args.capacity start.args.buffer start.args.n start.args.k start.args.pool.now turned.rotate_left.new.0 (inside found) turned.rotate_left.ensures
+pub returns-then-buffer-pool : goal.returns-then-buffer-pool
+returns-then-buffer-pool c =
+    let found = (goal.at.returns-then-buffer-pool c).Then-buffer-pool in
+    put found.args.capacity found.args.buffer found.args.n found.args.k found.args.pool.now c.rotate_left.new.s (inside found) c.rotate_left.ensures
 
-returns-3 : tie.Need-returns-3
-returns-3 c =
-    let start = c.before.before.before in
-    let capacity = start.args.capacity in
-    let b = start.args.buffer in
-    let pool = start.args.pool.now in
+pub returns-else-buffer-pool : goal.returns-else-buffer-pool
+returns-else-buffer-pool c =
+    let capacity = c.args.capacity in
+    let b = c.args.buffer in
+    let pool = c.args.pool.now in
     let some : 0 < capacity = omega arith in
     let fewer : length pool / capacity < suc b = omega arith in
-    sym (turn_laws.turned_out capacity b start.args.n start.args.k pool
+    sym (turn_laws.turned_out capacity b c.args.n c.args.k pool
     (subst (λ (m : ℕ). length pool < m) (suc-mul b capacity) ((div-lt_iff_lt-mul some).0 fewer)))
-
-pub turn_spec : {M : Type 1} → statement M
-turn_spec =
-    tie.close
-    (tie.spec
-    returns
-    (λ c. search rules)
-    mul_at
-    add-end
-    (λ c. search rules)
-    (λ c. search rules)
-    part-rotate-left-end
-    (λ c κs. search rules)
-    (λ c. search rules)
-    returns-2
-    returns-3)
