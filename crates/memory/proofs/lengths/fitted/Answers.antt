@@ -13,8 +13,7 @@ use Rattle.model.specs.declared.Opening.{Opening}
 use Rattle.model.specs.Memory.{same_lengths, settings_in}
 use Rattle.memory.specs.Lengths.{lengths_with, fit_of}
 use borrow.Author.Rules.{rules}
-use Rattle.memory.proofs.lengths.fitted.Statement.{statement}
-use Rattle.memory.proofs.lengths.fitted.Tie as tie
+use Rattle.memory.proofs.lengths.fitted.Goals as goal
 
 enough-words : (l : Lengths) (s : List ℕ) → same_lengths l s ≡ true → 48 ≤ length s
 unfolding same_lengths
@@ -24,20 +23,17 @@ enough-words l s e = leb-true 48 (length s) (and_left (leb 48 (length s)) _ e)
 by_test : (l : Lengths) (s : List ℕ) {t : Bool} → same_lengths l s ≡ t → record { fits = t; depth = pick t (settings_in s).depth 0 } ≡ fit_of l s
 by_test l s e = sym (ap (λ (t : Bool). record { fits = t; depth = pick t (settings_in s).depth 0 }) e)
 
-returns : tie.Need-returns
+pub returns-then-fits : goal.returns-then-fits
 unfolding pick
-returns c =
-    let a = c.before.before.before.before.before.before.before.before.args in
+returns-then-fits c =
+    let a = c.args in
     let l : Lengths = lengths_with a.rows a.store.now a.free.now a.ready.now a.owners.now (length a.pool.now) in
-    let e : same_lengths l a.store.now ≡ true = sym c.before.before.fits2.ensures ∙ c.before.if1.true in
-    ap (λ (o : Opening). record { fits = true; depth = o.depth }) (c.settings.ensures (enough-words l a.store.now e)) ∙ by_test l a.store.now e
+    let e : same_lengths l a.store.now ≡ true = sym c.fits.ensures ∙ c.if-fits.true in
+    ap (λ (o : Opening). record { fits = true; depth = o.depth }) (c.settings-o.ensures (enough-words l a.store.now e)) ∙ by_test l a.store.now e
 
-returns-2 : tie.Need-returns-2
+pub returns-else-fits : goal.returns-else-fits
 unfolding pick
-returns-2 c =
-    let a = c.before.before.before.before.before.before.before.args in
+returns-else-fits c =
+    let a = c.args in
     let l : Lengths = lengths_with a.rows a.store.now a.free.now a.ready.now a.owners.now (length a.pool.now) in
-    by_test l a.store.now (sym c.before.fits2.ensures ∙ c.if1.false)
-
-pub fitted-spec : {M : Type 1} → statement M
-fitted-spec = tie.close (tie.spec (λ c κs. search rules) (λ c κs. search rules) returns returns-2)
+    by_test l a.store.now (sym c.fits.ensures ∙ c.if-fits.false)
