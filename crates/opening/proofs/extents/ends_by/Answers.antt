@@ -7,8 +7,7 @@ use native.Mathlib.Omega.{arith}
 use borrow.Author.Tests.{le-leb, lt-leb, leb-true, leb-false}
 use lib.Dec.{leb}
 use Rattle.layout.proofs.Tests.{true_or_false}
-use Rattle.opening.proofs.extents.ends_by.Statement.{statement}
-use Rattle.opening.proofs.extents.ends_by.Tie as tie
+use Rattle.opening.proofs.extents.ends_by.Goals as goal
 
 what-is-left : (x y limit : ℕ) → y ≤ limit → leb x (limit - y) ≡ leb (x + y) limit
 what-is-left x y limit l = by_test (true_or_false (leb x (limit - y)))
@@ -17,15 +16,12 @@ what-is-left x y limit l = by_test (true_or_false (leb x (limit - y)))
     by_test (inl e) = e ∙ sym (le-leb (x + y) limit (omega (arith, leb-true x (limit - y) e)))
     by_test (inr e) = e ∙ sym (lt-leb (x + y) limit (omega (arith, leb-false x (limit - y) e)))
 
-returns : tie.Need-returns
-returns c =
-    let a = c.before.before.args in
+pub returns-then-offset-run : goal.returns-then-offset-run
+returns-then-offset-run c =
+    let a = c.args in
     sym (lt-leb (a.run.offset + a.run.size) a.offset (omega arith))
 
-returns-2 : tie.Need-returns-2
-returns-2 c =
-    let a = c.before.before.before.before.args in
+pub returns : goal.returns
+returns c =
+    let a = c.args in
     what-is-left a.run.offset a.run.size a.offset (omega arith)
-
-pub ends-by-spec : {M : Type 1} → statement M
-ends-by-spec = tie.close (tie.spec returns returns-2)
