@@ -1,8 +1,6 @@
 -- What the proofs of this crate share: a piece with bytes left behind it, a count that fits, and the rules of a row by what it awaits.
 use Rattle.std.proofs.Common.{◌≡◌, ℕ, ◌+◌, ◌-◌, ◌^◌, ◌<◌, Bool, true, false, eqb, ltb, List, [], ◌∷◌, sym, refl, ap, ◌∙◌, subst, ⊎_elim, arith, ltb-false, ltb-true, le-ltb, lt-ltb}
-use mathlib.Core.Bool.{and_false}
-use types.Run.{OneOf, miss}
-use denote.Enum.Declared.{tag_of}
+use mathlib.Core.Bool.{and-false}
 use Rattle.layout.proofs.Tests.{true_or_false}
 use Rattle.regionmap.specs.Map.{Map}
 use Rattle.iobuf.proofs.Laws.{turned_none}
@@ -10,7 +8,6 @@ use Rattle.domain.specs.declared.Poisoned.{Poisoned}
 use Rattle.domain.specs.declared.Poisoned.TheVariants.{Never}
 use Rattle.platform.specs.declared.Answer.{Answer}
 use Rattle.platform.specs.declared.Answer.TheVariants.{Count, Error, Refused, RefusedWith}
-use Rattle.platform.specs.contracts.Answer.{the_type as answers}
 use Rattle.platform.specs.declared.Flushed.{Flushed}
 use Rattle.completion.specs.declared.Refusal.TheVariants.{NotAwaited}
 use Rattle.completion.specs.declared.WriteTicket.{WriteTicket}
@@ -21,7 +18,6 @@ use Rattle.model.specs.declared.Kind.{Kind}
 use Rattle.model.specs.declared.Split.{Split}
 use Rattle.model.specs.declared.Awaits.{Awaits}
 use Rattle.model.specs.declared.Awaits.TheVariants.{Nothing, Piece, Flush}
-use Rattle.model.specs.contracts.Awaits.{the_type}
 use Rattle.model.specs.declared.Row.{Row}
 use Rattle.memory.specs.declared.liveregion.LiveRegion.{LiveRegion}
 use Rattle.step.specs.Rules.{above_piece, is_refusal, first_refused, piece_answered, answer_rules, flush_outcome, flush_ends, flush_rules}
@@ -49,16 +45,13 @@ count_fits piece s (RefusedWith e media) within fits = tt
 
 -- ---- the rules of an answer
 
--- the answers that are no refusal, by their numbers: with them no first piece is refused
-abbrev unrefused : List ℕ
-unrefused = 0 ∷ 1 ∷ []
-
-pub no_refusal : (s : Split) (answer : Answer) → OneOf unrefused (tag_of answers answer) → false ≡ first_refused s answer
+-- with an answer that is no refusal no first piece is refused
+pub no_refusal : (s : Split) (answer : Answer) → (answer ≡ Refused → ⊥) → ((e : ℕ) (media : Bool) → answer ≡ RefusedWith e media → ⊥) → false ≡ first_refused s answer
 unfolding first_refused is_refusal
-no_refusal s (Count n) w = sym (and_false (eqb s.done 0))
-no_refusal s (Error e media) w = sym (and_false (eqb s.done 0))
-no_refusal s Refused w = absurd (miss unrefused 2 tt w)
-no_refusal s (RefusedWith e media) w = absurd (miss unrefused 3 tt w)
+no_refusal s (Count n) r w = sym (and-false (eqb s.done 0))
+no_refusal s (Error e media) r w = sym (and-false (eqb s.done 0))
+no_refusal s Refused r w = absurd (r refl)
+no_refusal s (RefusedWith e media) r w = absurd (w e media refl)
 
 module _ (o : Opening) (g : LiveRegion) (m : Map) (first : Poisoned) (row : Row) (piece : ℕ) (answer : Answer) (back : Bool) (flushes : ℕ) where
   -- the values tell what the rules say of a row that awaits this
@@ -72,15 +65,12 @@ module _ (o : Opening) (g : LiveRegion) (m : Map) (first : Poisoned) (row : Row)
       subst (Answered r) (sym e)
       (λ fits bytes. told fits.2 fits.1 bytes ∙ ap (λ (n : ℕ). piece_answered o (plan_with g m) g.forced first row k s n bytes answer back flushes) fits.0)
 
-  -- what a row may await that is no piece, by its number
-  abbrev no_pieces : List ℕ
-  no_pieces = 0 ∷ 2 ∷ []
-
-  pub no_piece : (w : Awaits) → OneOf no_pieces (tag_of the_type w) → Answered (Away NotAwaited) w
+  -- of a row that awaits no piece
+  pub no_piece : (w : Awaits) → ((k : Kind) (s : Split) → w ≡ Piece k s → ⊥) → Answered (Away NotAwaited) w
   unfolding fate_by answer_rules
-  no_piece Nothing h fits bytes = refl
-  no_piece (Piece k s) h fits bytes = absurd (miss no_pieces 1 tt h)
-  no_piece (Flush t) h fits bytes = refl
+  no_piece Nothing other fits bytes = refl
+  no_piece (Piece k s) other fits bytes = absurd (other k s refl)
+  no_piece (Flush t) other fits bytes = refl
 
 -- ---- the rules of a flush result
 
@@ -96,12 +86,9 @@ module _ (o : Opening) (row : Row) (result : Flushed) where
       subst (Resulted (Ended (record { outcome = x; buf = Back row.buffer n; turn = record { total = 0; by = 0 }; cause = Never }))) (sym e)
       (λ bytes. same_end p (ap (Back row.buffer) q) (turned_none 0 0 bytes refl))
 
-  -- what a row may await that is no flush, by its number
-  abbrev no_flushes : List ℕ
-  no_flushes = 0 ∷ 1 ∷ []
-
-  pub no_flush : (w : Awaits) → OneOf no_flushes (tag_of the_type w) → Resulted (Away NotAwaited) w
+  -- of a row that awaits no flush
+  pub no_flush : (w : Awaits) → ((t : WriteTicket) → w ≡ Flush t → ⊥) → Resulted (Away NotAwaited) w
   unfolding fate_by flush_rules
-  no_flush Nothing h bytes = refl
-  no_flush (Piece k s) h bytes = refl
-  no_flush (Flush t) h bytes = absurd (miss no_flushes 2 tt h)
+  no_flush Nothing other bytes = refl
+  no_flush (Piece k s) other bytes = refl
+  no_flush (Flush t) other bytes = absurd (other t refl)

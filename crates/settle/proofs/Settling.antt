@@ -1,9 +1,7 @@
 -- What the proofs of this crate and of those above it share: a count that is written, a sum that fits, an answer that is no count,
 -- an end and a ticket by their parts.
-use Rattle.std.proofs.Common.{◌≡◌, ℕ, ◌+◌, ◌-◌, ◌%◌, ◌^◌, ◌<◌, ◌≤◌, Bool, true, false, ◌&&◌, eqb, leb, List, [], ◌∷◌, sym, ap, ◌∙◌, ⊎_elim, mod-eq_of_lt, arith, eq-eqb, ne_eqb, eqb-true, leb-false, leb-true}
+use Rattle.std.proofs.Common.{◌≡◌, ℕ, ◌+◌, ◌-◌, ◌%◌, ◌^◌, ◌<◌, ◌≤◌, Bool, true, false, ◌&&◌, eqb, leb, List, [], ◌∷◌, sym, refl, ap, ◌∙◌, ⊎_elim, mod-eq_of_lt, arith, eq-eqb, ne_eqb, eqb-true, leb-false, leb-true}
 use mathlib.Core.Option.{Option}
-use types.Run.{OneOf, miss}
-use denote.Enum.Declared.{tag_of}
 use borrow.Author.Tests.{eqb-false}
 use Rattle.layout.proofs.Tests.{true_or_false}
 use Rattle.regionmap.specs.declared.Position.{Position}
@@ -12,7 +10,6 @@ use Rattle.domain.specs.declared.FirstCause.{FirstCause}
 use Rattle.domain.specs.Domain.{need_after}
 use Rattle.platform.specs.declared.Answer.{Answer}
 use Rattle.platform.specs.declared.Answer.TheVariants.{Count, Error, Refused, RefusedWith}
-use Rattle.platform.specs.contracts.Answer.{the_type}
 use Rattle.completion.specs.declared.WriteTicket.{WriteTicket}
 use Rattle.completion.specs.declared.Outcome.{Outcome}
 use Rattle.completion.specs.declared.Buffer.{Buffer}
@@ -54,17 +51,13 @@ no_wrap a b n e small = e ∙ mod-eq_of_lt small
 
 -- ---- answers
 
--- the answers that are no count, by their numbers
-abbrev others : List ℕ
-others = 1 ∷ 2 ∷ 3 ∷ []
-
--- what holds of each of them
+-- what holds of each answer that is no count
 pub no_count : (P : Answer → Type 0) → ((e : ℕ) (media : Bool) → P (Error e media)) → P Refused → ((e : ℕ) (media : Bool) → P (RefusedWith e media))
-    → (answer : Answer) → OneOf others (tag_of the_type answer) → P answer
-no_count P error refused with (Count n) w = absurd (miss others 0 tt w)
-no_count P error refused with (Error e media) w = error e media
-no_count P error refused with Refused w = refused
-no_count P error refused with (RefusedWith e media) w = with e media
+    → (answer : Answer) → ((n : ℕ) → answer ≡ Count n → ⊥) → P answer
+no_count P error refused with (Count n) other = absurd (other n refl)
+no_count P error refused with (Error e media) other = error e media
+no_count P error refused with Refused other = refused
+no_count P error refused with (RefusedWith e media) other = with e media
 
 -- ---- ends
 
