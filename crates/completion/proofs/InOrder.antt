@@ -1,7 +1,6 @@
 -- The refusals in the order of document 01's numbers have the numbers 1 to 16, each once: by computing.
 use mathlib.Core.Path.{◌≡◌, refl}
 use mathlib.Core.List.{List, [], ◌∷◌, map}
-use Prim.Native.Nat.{ℕ}
 use Rattle.domain.specs.declared.FirstCause.{FirstCause}
 use Rattle.completion.specs.declared.Context.{Context}
 use Rattle.completion.specs.declared.Refusal.{Refusal}

@@ -3,9 +3,7 @@
 use Rattle.std.specs.Prelude.{ℕ}
 use Rattle.regionmap.specs.declared.Position.{Position}
 use Rattle.domain.specs.declared.FirstCause.{FirstCause}
-use Rattle.completion.specs.declared.{Range.Range, Context.Context, Refusal.Refusal}
-use Rattle.completion.specs.declared.Context.TheVariants as Context
-use Rattle.completion.specs.declared.Refusal.TheVariants as Refusal
+use Rattle.completion.specs.declared.{Context.Context, Refusal.Refusal}
 
 -- the number of each refusal
 unfoldable pub number : Refusal → ℕ

@@ -1,7 +1,6 @@
 -- What a refusal tells besides its number: a context or a cause, as values.
 use Rattle.completion.specs.Numbers.{Values, cause, context_values}
 use Rattle.completion.specs.declared.refusals.Told.{Told}
-use Rattle.completion.specs.declared.refusals.Told.TheVariants as Told
 
 unfoldable pub told_values : Told → Values
 told_values (Told.Context c) = context_values c

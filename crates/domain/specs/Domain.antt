@@ -2,7 +2,6 @@
 -- "the ticket's need is the flush count plus one, wrapping at 2^64".
 use Rattle.std.specs.Prelude.{ℕ, ◌+◌, ◌%◌, ◌^◌}
 use Rattle.domain.specs.declared.{FirstCause.FirstCause, Poisoned.Poisoned}
-use Rattle.domain.specs.declared.Poisoned.TheVariants as Poisoned
 
 -- the store's poison after a cause
 abbrev pub first_kept : Poisoned → FirstCause → Poisoned

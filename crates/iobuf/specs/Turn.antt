@@ -1,6 +1,6 @@
 -- "the operation's bytes at the front of the buffer turn left by the piece"; "the buffer .. is turned back to its first arrangement".
 -- "One buffer's stretch of the pool is lent on and turned there."
-use Rattle.std.specs.Prelude.{List, [], ◌∷◌, ◌++◌, ℕ, ◌+◌, ◌-◌, ◌*◌, length, take, drop, leb}
+use Rattle.std.specs.Prelude.{List, ◌++◌, ℕ, ◌+◌, ◌*◌, length, take, drop, leb}
 use Rattle.layout.specs.Pick.{pick}
 
 -- the first n bytes turn left by k; the bytes past n stay where they lie

@@ -1,29 +1,27 @@
 -- The laws of an admitted opening. The words of a region in the store are those of the plan, so its map is the plan's; the remembered lengths are read
 -- back from where they were written; a range's pieces act like one transfer by the map's laws, since no two positions share a card byte.
-use mathlib.Core.Path.{◌≡◌, refl, sym, ap, ap₂, ◌∙◌, subst}
-use mathlib.Core.Logic.{◌≢◌}
-use mathlib.Core.Bool.{Bool, true, ◌&&◌}
-use mathlib.Core.List.{List, [], ◌∷◌, ◌++◌}
-use Prim.Native.Nat.{ℕ, zero, suc, ◌+◌, ◌-◌, ◌*◌, ◌≤◌, ◌<◌}
+use mathlib.Core.Path.{◌≡◌, refl, sym, ap, ◌∙◌, subst}
+use mathlib.Core.Bool.{true}
+use mathlib.Core.List.{List, [], ◌++◌}
+use Prim.Native.Nat.{ℕ, zero, suc, ◌+◌, ◌*◌, ◌≤◌, ◌<◌}
 use native.Mathlib.Nat.{suc-mul, mul-le-mul_right, add_left_cancel, not-suc-le-zero, le_of_suc-le-suc}
 use native.Mathlib.Decide.{ℕ_discrete}
 use native.Mathlib.Omega.{arith}
-use borrow.Author.Tests.{leb-true, le-leb, eqb-true, eq-eqb}
-use lib.Dec.{leb, eqb, lit<}
+use borrow.Author.Tests.{le-leb, eqb-true, eq-eqb}
+use lib.Dec.{leb, eqb}
 use lib.ListN.{length, get_or, take, drop, length-append, length-take, length-drop, get_or-append}
 use lib.Seq.{length-take-le, drop-drop, get_or-take, get_or-drop, ext_get_or}
 use Rattle.layout.proofs.Tests.{and_left, and_right, and_both}
-use Rattle.regionmap.specs.Map.{Map, ascends, place}
-use Rattle.regionmap.specs.Words.{runs_in, map_in}
+use Rattle.regionmap.specs.Map.{Map, ascends}
+use Rattle.regionmap.specs.Words.{map_in}
 use Rattle.regionmap.specs.Found.{HoldsMap}
-use Rattle.regionmap.specs.Laws.{Lawful}
 use Rattle.posix.specs.Transfer.{CardAndPool, Operation, wrote, read_in, whole, Accepted, Distinct, OneWrite, OneRead}
 use Rattle.posix.proofs.Theorem.{transfers}
 use Rattle.model.specs.declared.Opening.{Opening}
 use Rattle.model.specs.declared.Lengths.{Lengths}
 use Rattle.model.specs.Opening.{Plan, plan_in, plans_in, opens}
 use Rattle.model.specs.Memory.{same_lengths, store_head, over, store_opened}
-use Rattle.model.specs.Laws.{map_at, map_words_at, operation_at, Asked, OpenedMaps, OpeningLaws}
+use Rattle.model.specs.Laws.{map_at, map_words_at, operation_at, Asked, OpeningLaws}
 use Rattle.model.proofs.Rules.{numbers_hold, room_holds, plan_listed, pool_holds}
 use Rattle.model.proofs.Opened.{opened_state}
 use Rattle.model.proofs.Maps.{runs_length, plans_length, inside, plan_maps, opened_maps}

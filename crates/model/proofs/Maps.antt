@@ -1,25 +1,25 @@
 -- The maps of a list of plans that keeps the opening's rules on regions: each is lawful, and no two positions share a card byte. The tests on the list of plans are read at each place of
 -- the list, by induction; the rest are the map's laws.
-use mathlib.Core.Path.{◌≡◌, refl, sym, ap, ◌∙◌, subst}
-use mathlib.Core.Logic.{◌≢◌, ⊎_elim}
-use mathlib.Core.Bool.{Bool, true, ◌&&◌}
+use mathlib.Core.Path.{◌≡◌, refl, sym, ap, subst}
+use mathlib.Core.Logic.{◌≢◌}
+use mathlib.Core.Bool.{true}
 use mathlib.Core.List.Memᴰ
-use mathlib.Core.List.{List, [], ◌∷◌, ◌++◌, Memᴰ}
-use Prim.Native.Nat.{ℕ, zero, suc, ◌-◌, ◌+◌, ◌≤◌, ◌<◌, ◌^◌}
+use mathlib.Core.List.{List, [], ◌∷◌, Memᴰ}
+use Prim.Native.Nat.{ℕ, zero, suc, ◌-◌, ◌≤◌, ◌<◌, ◌^◌}
 use native.Mathlib.Nat.{not-suc-le-zero, le_of_suc-le-suc}
 use native.Mathlib.Decide.{dec_lt}
 use native.Mathlib.Omega.{arith}
 use borrow.Author.Tests.{leb-true, ltb-true}
-use lib.Dec.{leb, ltb}
-use lib.ListN.{length, get_or, take, drop}
+use lib.Dec.{ltb}
+use lib.ListN.{length, get_or, drop}
 use Rattle.layout.proofs.Tests.{and_left, and_right}
-use Rattle.regionmap.specs.Map.{Map, Extent, extents, ascends, all_apart, all_within, place}
+use Rattle.regionmap.specs.Map.{Map, Extent, extents, all_apart, all_within, place}
 use Rattle.regionmap.specs.Words.{runs_in}
 use Rattle.regionmap.specs.Laws.{Lawful, Separate}
 use Rattle.regionmap.proofs.Laws.{map_laws, extent_laws}
 use Rattle.model.specs.declared.Opening.{Opening}
 use Rattle.model.specs.declared.Lengths.{Lengths}
-use Rattle.model.specs.Opening.{Plan, generation_rule, runs_rule, sizes_rule, starts_rule, blocks_rule, map_rule, region_rule, each_region, all_extents, ids_rule, within_rule, apart_rule, all_true, region_rules, plan_in, plans_in, opens}
+use Rattle.model.specs.Opening.{Plan, generation_rule, runs_rule, sizes_rule, starts_rule, map_rule, region_rule, each_region, all_extents, within_rule, apart_rule, all_true, region_rules, plan_in, plans_in, opens}
 use Rattle.model.specs.Laws.{map_of, PlanMaps, OpenedMaps}
 use Rattle.model.proofs.Rules.{head_true, tail_true, numbers_hold, regions_hold}
 

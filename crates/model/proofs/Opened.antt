@@ -1,9 +1,8 @@
 -- The state in what is lent once an opening is admitted is the one that document 01 says: part by part, each read back from where it was written.
-use mathlib.Core.Path.{◌≡◌, refl, sym, ap, ap₂, ◌∙◌}
+use mathlib.Core.Path.{◌≡◌, refl, ap, ap₂, ◌∙◌}
 use mathlib.Core.Bool.{Bool, true, false}
 use mathlib.Core.List.{List, [], ◌∷◌, ◌++◌, map}
 use Prim.Native.Nat.{ℕ, zero, suc, ◌+◌, ◌*◌, ◌≤◌, ◌<◌}
-use native.Mathlib.Nat.{le_trans}
 use native.Mathlib.Omega.{arith}
 use lib.ListN.{length, get_or, take, drop, replicate, length-replicate, length-drop, get_or-append, get_or-replicate}
 use lib.Seq.{take_at, drop_at, take-append-le, drop-append-le, take-take, get_or-take, get_or-drop, length-take-le, take-add}
@@ -11,12 +10,9 @@ use lib.Dec.{lit<}
 use Rattle.layout.specs.Pick.{pick}
 use Rattle.domain.specs.declared.Poisoned.TheVariants.{Never}
 use Rattle.model.specs.declared.Opening.{Opening}
-use Rattle.model.specs.declared.Lengths.{Lengths}
-use Rattle.model.specs.declared.Gate.{Gate}
-use Rattle.model.specs.declared.Row.{Row}
-use Rattle.model.specs.State.{Region, State, Owner, Owner.host, freed, up_from}
-use Rattle.model.specs.Opening.{Plan, at_first, opened, plan_in, plans_in, opens}
-use Rattle.model.specs.Memory.{Lent, lengths_of, flag, settings_in, lengths_in, poison_in, gate_in, region_in, regions_in, owner_in, ready_in, state_in, word01, store_head, over, rows_opened, store_opened, free_opened, ready_opened, owners_opened, opened_lent}
+use Rattle.model.specs.State.{Region, Owner, Owner.host, freed, up_from}
+use Rattle.model.specs.Opening.{at_first, opened, plan_in, plans_in, opens}
+use Rattle.model.specs.Memory.{Lent, lengths_of, flag, settings_in, lengths_in, poison_in, gate_in, region_in, regions_in, owner_in, ready_in, state_in, word01, store_head, over, rows_opened, store_opened, free_opened, owners_opened, opened_lent}
 use Rattle.model.specs.State.{fresh}
 use Rattle.model.proofs.Rules.{numbers_hold, plan_listed}
 

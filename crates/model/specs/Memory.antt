@@ -7,18 +7,12 @@
 -- free     the free rows, top first, from place `live` up to the depth
 -- ready    0 the place of the oldest completion; 1 + 16 i the completion at place i of a ring of depth places
 -- owners   of each buffer: 0 the host, 1 the table, 2 lost
-use Rattle.std.specs.Prelude.{◌≡◌, Bool, true, false, not, ◌&&◌, List, [], ◌∷◌, ◌++◌, map, ℕ, zero, suc, ◌+◌, ◌*◌, ◌<◌, ◌%◌, ◌^◌, length, get_or, take, drop, replicate, leb, eqb}
+use Rattle.std.specs.Prelude.{◌≡◌, Bool, true, false, not, ◌&&◌, List, [], ◌∷◌, ◌++◌, map, ℕ, zero, suc, ◌*◌, ◌<◌, ◌%◌, ◌^◌, length, get_or, take, drop, replicate, leb, eqb}
 use Rattle.layout.specs.Pick.{pick}
 use Rattle.regionmap.specs.Words.{position_of}
 use Rattle.domain.specs.declared.{Op.Op, OsError.OsError, FirstCause.FirstCause, Poisoned.Poisoned}
-use Rattle.domain.specs.declared.Op.TheVariants as Op
-use Rattle.domain.specs.declared.OsError.TheVariants as OsError
-use Rattle.domain.specs.declared.Poisoned.TheVariants as Poisoned
 use Rattle.completion.specs.declared.{WriteTicket.WriteTicket, Range.Range, Outcome.Outcome, Buffer.Buffer, Completion.Completion}
-use Rattle.completion.specs.declared.Outcome.TheVariants as Outcome
-use Rattle.completion.specs.declared.Buffer.TheVariants as Buffer
 use Rattle.model.specs.declared.{Opening.Opening, Lengths.Lengths, Gate.Gate, Counts.Counts, Row.Row}
-use Rattle.model.specs.declared.Gate.TheVariants as Gate
 use Rattle.model.specs.State.{Region, Owner, Owner.host, Owner.table, Owner.lost, State, freed, up_from, receipt_made}
 use Rattle.model.specs.Opening.{opens, plan_in, HEAD, REGION}
 

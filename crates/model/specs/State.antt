@@ -4,8 +4,6 @@ use Rattle.regionmap.specs.Map.{Map}
 use Rattle.domain.specs.declared.Poisoned.{Poisoned}
 use Rattle.completion.specs.declared.{WriteTicket.WriteTicket, DurableReceipt.DurableReceipt, Completion.Completion}
 use Rattle.model.specs.declared.{Opening.Opening, Lengths.Lengths, Gate.Gate, Counts.Counts, Row.Row, Awaits.Awaits}
-use Rattle.model.specs.declared.Gate.TheVariants as Gate
-use Rattle.model.specs.declared.Awaits.TheVariants as Awaits
 
 -- "A region has a generation (32 bits), a first card offset, up to 32 further runs (start position, card offset), a positive capacity and a
 -- data length"; its gate; "a region's gate, read-only or forced mark"

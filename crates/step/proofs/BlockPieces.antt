@@ -14,7 +14,6 @@ use Rattle.layout.proofs.Laws.{block_laws}
 use Rattle.layout.proofs.Tests.{and_left, and_right}
 use Rattle.regionmap.specs.Map.{Run, Map, Span, first_run, span_from, map_run, map_run_end, map_run_left, place, piece_size}
 use Rattle.completion.specs.declared.Reply.{Reply}
-use Rattle.completion.specs.declared.Reply.TheVariants as Reply
 use Rattle.model.specs.declared.Split.{Split}
 use Rattle.model.specs.declared.Awaits.{Awaits}
 use Rattle.model.specs.declared.Awaits.TheVariants.{Nothing, Piece, Flush}

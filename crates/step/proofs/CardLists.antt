@@ -9,7 +9,6 @@ use Prim.Native.Nat.{ℕ, ◌+◌, ◌<◌}
 use native.Mathlib.Decide.{ℕ_discrete}
 use borrow.Author.Tests.{eq-eqb, ne_eqb}
 use lib.Dec.{eqb}
-use lib.ListN.{get_or}
 use Rattle.layout.specs.Pick.{pick}
 use Rattle.layout.proofs.Tests.{not_both}
 use Rattle.regionmap.specs.Map.{place}
@@ -20,11 +19,11 @@ use Rattle.model.specs.declared.Awaits.TheVariants.{Nothing, Piece, Flush}
 use Rattle.model.specs.declared.Kind.TheVariants.{Page, Read}
 use Rattle.model.specs.declared.Row.{Row}
 use Rattle.model.specs.State.{State}
-use Rattle.model.specs.Opening.{Plan, plan_in}
+use Rattle.model.specs.Opening.{Plan}
 use Rattle.step.specs.Questions.{region_at}
 use Rattle.step.specs.Rules.{Input, range_start, range_end}
 use Rattle.step.specs.Step.{queue_tag, row_at, row_of, generation_of, raised, is_live, names, bytes_at, plan_of}
-use Rattle.step.specs.Run.{Event, leave, next, reply_to, Start, plans_of}
+use Rattle.step.specs.Run.{Event, leave, next, reply_to, Start}
 use Rattle.step.specs.Lists.{brought, is_away, plan_at, left_in, Given, given_as, given_by, given, wrote_by, tag_in, card_by, card_after, HostMay}
 use Rattle.step.specs.Alone.{Course, Course.is_open, Course.completed, Course.was_refused, Alones}
 use Rattle.step.specs.Demand3.{Mapped, is_write, Fits}

@@ -42,7 +42,7 @@ use Rattle.step.specs.Questions.{byte_at, region_at}
 use Rattle.step.specs.Rules.{left_of, first_of, piece_of, piece_length, split_after, flush_ends, is_written, last_piece, above_piece, first_refused, is_whole, goes_on, piece_answered, answer_rules, flush_rules, rules, Input, Input.answered, Input.flushed, Fate, Fate.away, Fate.awaits, Fate.ends, Fate.rejected, range_end}
 use Rattle.step.specs.Step.{row_at, row_of, names, is_live, plan_of, bytes_at, raised, awaits_now, completion_of, going, freeing, settled, fate_of}
 use Rattle.step.specs.Sound.{Sound, SplitFits}
-use Rattle.step.specs.Run.{Event, leave, done, next, reply_to}
+use Rattle.step.specs.Run.{Event, leave, next, reply_to}
 use Rattle.step.specs.Lists.{brought, is_away, plan_at, left_in, Given, given_as, given_by, given, Completed, with_bytes, added_by, is_brought, gets, HostMay}
 use Rattle.step.specs.Demand3.{is_write}
 use Rattle.step.specs.Demand2.{WholeTo, answers_of, answers_in, Followed, AllWhole, is_kept}

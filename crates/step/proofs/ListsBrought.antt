@@ -17,7 +17,7 @@ use Rattle.model.specs.declared.Lookup.{Lookup}
 use Rattle.model.specs.State.{State}
 use Rattle.step.specs.Rules.{Input, Input.answered, Input.flushed}
 use Rattle.step.specs.Step.{under_tag, called, eq_lengths, step}
-use Rattle.step.specs.Run.{Made, Made.calls, Made.looks, done, Start, plans_of}
+use Rattle.step.specs.Run.{Made, Made.calls, Made.looks, done, Start}
 use Rattle.step.specs.Lists.{brought_by, brought, tag_in}
 use Rattle.step.specs.Alone.{Alones, feeds, heard_call, heard}
 use Rattle.step.specs.Demand3.{listed_call, is_listed}

@@ -3,7 +3,7 @@
 use mathlib.Core.Path.{◌≡◌, refl, sym, ap, ◌∙◌}
 use mathlib.Core.Bool.{Bool, true, false, ◌&&◌}
 use mathlib.Core.List.{List, [], ◌∷◌, map}
-use Prim.Native.Nat.{ℕ, zero, suc, ◌+◌, ◌*◌, ◌≤◌, ◌<◌}
+use Prim.Native.Nat.{ℕ, zero, suc, ◌<◌}
 use native.Mathlib.Omega.{arith}
 use lib.ListN.{length, get_or, set, take, drop}
 use lib.Seq.{take-set-lt, drop-drop}
@@ -14,7 +14,7 @@ use Rattle.layout.proofs.Tests.{and_left, and_right}
 use Rattle.model.specs.declared.Counts.{Counts}
 use Rattle.model.specs.declared.Row.{Row}
 use Rattle.model.specs.declared.Lengths.{Lengths}
-use Rattle.model.specs.State.{State, Owner, Owner.table}
+use Rattle.model.specs.State.{State, Owner.table}
 use Rattle.model.specs.Memory.{Lent, lengths_of, lengths_in, same_lengths, settings_in, owner_in, state_in}
 use Rattle.step.specs.Step.{one_more, eq_lengths}
 use Rattle.step.specs.Sound.{Sound}

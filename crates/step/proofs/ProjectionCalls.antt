@@ -7,7 +7,7 @@ use native.Mathlib.Decide.{ℕ_discrete}
 use native.Mathlib.Omega.{arith}
 use borrow.Author.Tests.{ltb-true}
 use lib.Dec.{ltb}
-use lib.ListN.{length, get_or, set, get_or-map}
+use lib.ListN.{get_or, set, get_or-map}
 use lib.Seq.{get_or-set_same, get_or-set_other, map-set_same}
 use Rattle.layout.specs.Pick.{pick}
 use Rattle.completion.specs.declared.Completion.{Completion}
@@ -17,17 +17,15 @@ use Rattle.completion.specs.declared.Reply.{Reply}
 use Rattle.completion.specs.declared.Reply.TheVariants.{No as turnedAway}
 use Rattle.domain.specs.declared.FirstCause.{FirstCause}
 use Rattle.domain.specs.Domain.{first_kept}
-use Rattle.model.specs.declared.Opening.{Opening}
 use Rattle.model.specs.declared.Lengths.{Lengths}
 use Rattle.model.specs.declared.Call.{Call}
 use Rattle.model.specs.declared.Call.TheVariants.{Write, ReadPage, Answer, Flushed, Take, SetGate, SetReadOnly, SetForced, ReportPoison}
 use Rattle.model.specs.State.{Region, no_region, State}
-use Rattle.model.proofs.Maps.{plans_length}
 use Rattle.step.specs.Questions.{region_at}
 use Rattle.step.specs.Rules.{Input.answered, Input.flushed}
 use Rattle.step.specs.Step.{write_verdict, read_verdict, plan_of, taken, with_regions, with_poison, marked, with_gate, with_read_only, with_forced, called, eq_lengths, step}
 use Rattle.step.specs.Sound.{Sound}
-use Rattle.step.specs.Run.{Made, Made.calls, Made.looks, done, Start, plans_of}
+use Rattle.step.specs.Run.{Made, Made.calls, Made.looks, done, Start}
 use Rattle.step.specs.Alone.{Alones, put_at, heard_call, heard, first_as, forced_as}
 use Rattle.step.specs.Demand3.{Projected}
 use Rattle.step.proofs.Picked.{by_pick}

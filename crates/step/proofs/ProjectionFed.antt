@@ -20,7 +20,7 @@ use Rattle.step.specs.Sound.{Sound}
 use Rattle.step.specs.Lists.{tag_at, plan_at}
 use Rattle.step.specs.Alone.{Course, Course.is_open, Course.completed, Course.was_refused, Alones, put_at, onward, blamed, alone_fate, feeds, ops_as, first_as}
 use Rattle.step.specs.Demand3.{Alike, Projected}
-use Rattle.step.specs.Run.{Start, plans_of}
+use Rattle.step.specs.Run.{Start}
 use Rattle.step.proofs.AloneTags.{clash, freed_dead, live_in, names_live, names_generation, names_by, named_tag, one_tag}
 use Rattle.step.proofs.Named.{one_live}
 use Rattle.step.proofs.Buffers.{bytes_length}

@@ -3,7 +3,7 @@
 use mathlib.Core.Path.{◌≡◌, refl, sym, ap, ◌∙◌, subst}
 use mathlib.Core.Logic.{◌≢◌, ◌⊎◌, inl, inr}
 use mathlib.Core.Bool.{true}
-use mathlib.Core.List.{List, [], ◌++◌}
+use mathlib.Core.List.{List, ◌++◌}
 use Prim.Native.Nat.{ℕ, ◌+◌, ◌≤◌, ◌<◌}
 use native.Mathlib.Decide.{ℕ_discrete}
 use native.Mathlib.Omega.{arith}
@@ -14,12 +14,12 @@ use Rattle.iobuf.specs.Turn.{stretch}
 use Rattle.model.specs.declared.Opening.{Opening}
 use Rattle.model.specs.declared.Row.{Row}
 use Rattle.model.specs.State.{Owner, Owner.host, Owner.table, Owner.lost, State, freed}
-use Rattle.model.specs.Opening.{Plan, plan_in}
+use Rattle.model.specs.Opening.{Plan}
 use Rattle.step.specs.Questions.{is_host, region_at, held_at}
 use Rattle.step.specs.Rules.{Input, rules}
 use Rattle.step.specs.Step.{row_at, is_live, bytes_at, plan_of, fate_of}
 use Rattle.step.specs.Sound.{row_holds, rows_hold, table_has, InTable, Sound}
-use Rattle.step.specs.Run.{leave, Start, plans_of}
+use Rattle.step.specs.Run.{leave, Start}
 use Rattle.step.specs.Lists.{loose, plan_at, LooseIn, HostMay}
 use Rattle.step.specs.Alone.{Alones, with_left, alone_fate}
 use Rattle.step.specs.Demand3.{Alike}

@@ -15,7 +15,7 @@ use Rattle.model.specs.declared.Row.{Row}
 use Rattle.model.specs.State.{State, freed}
 use Rattle.step.specs.Rules.{Input, Fate, Fate.away, Fate.awaits, Fate.ends, Fate.rejected}
 use Rattle.step.specs.Step.{row_at, row_of, raised, names, bytes_at, completion_of, going, freeing, settled, fate_of, under_tag, eq_lengths}
-use Rattle.step.specs.Run.{Event, leave, done, next, reply_to, Start, plans_of}
+use Rattle.step.specs.Run.{Event, leave, done, next, reply_to, Start}
 use Rattle.step.specs.Lists.{brought, is_away, Completed, HostMay, plan_at}
 use Rattle.step.specs.Alone.{Course, Course.is_open, Course.completed, Course.was_refused, Alones, onward, alone_fate, feeds, heard, alone_next}
 use Rattle.step.specs.Demand3.{StepsAlone}

@@ -17,7 +17,6 @@ use Rattle.model.specs.declared.Row.{Row}
 use Rattle.model.specs.State.{State, freed, awaiting, live_rows}
 use Rattle.model.specs.Opening.{Plan}
 use Rattle.step.specs.Questions.{region_at}
-use Rattle.step.specs.Rules.{Fate.awaits}
 use Rattle.step.specs.Step.{row_at, row_of, raised, is_live, plan_of, awaits_now, completion_of, asks_for, going, freeing, settled, taken}
 use Rattle.step.specs.Run.{Made, Event, leave, done, next, reply_to, run, Start}
 use Rattle.step.specs.Lists.{took_by, added_by, added, takings}

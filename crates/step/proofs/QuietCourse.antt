@@ -9,7 +9,7 @@ use Prim.Native.Nat.{ℕ}
 use native.Mathlib.Omega.{arith}
 use borrow.Author.Tests.{eqb-false}
 use lib.Dec.{eqb}
-use lib.ListN.{take, drop, get_or}
+use lib.ListN.{take, drop}
 use lib.Seq.{take-take}
 use Rattle.layout.specs.Pick.{pick}
 use Rattle.layout.proofs.Tests.{not_both, true_or_false}
@@ -18,11 +18,11 @@ use Rattle.domain.specs.declared.Poisoned.{Poisoned}
 use Rattle.completion.specs.declared.Reply.{Reply}
 use Rattle.model.specs.declared.Row.{Row}
 use Rattle.model.specs.State.{State}
-use Rattle.model.specs.Opening.{Plan, plan_in}
+use Rattle.model.specs.Opening.{Plan}
 use Rattle.step.specs.Questions.{region_at}
 use Rattle.step.specs.Rules.{Input, Fate, Fate.away, Fate.awaits, Fate.ends, Fate.rejected, rules}
 use Rattle.step.specs.Step.{row_at, row_of, bytes_at, plan_of, settled, eq_lengths}
-use Rattle.step.specs.Run.{Made, Event, leave, reply_to, Start, plans_of}
+use Rattle.step.specs.Run.{Made, Event, leave, reply_to, Start}
 use Rattle.step.specs.Lists.{brought, is_away, loose, plan_at, left_in, Given, given_as, given_by, HostMay}
 use Rattle.step.specs.Alone.{Course, Course.is_open, Course.completed, Course.was_refused, Alones, with_left, onward, alone_fate, feeds, heard_call, heard, alone_next}
 use Rattle.step.specs.Demand3.{is_listed}

@@ -9,13 +9,9 @@ use Rattle.std.proofs.Math.Option.{Option, none, some}
 use Rattle.layout.specs.Pick.{pick}
 use Rattle.iobuf.specs.Turn.{stretch}
 use Rattle.domain.specs.declared.{FirstCause.FirstCause, Poisoned.Poisoned}
-use Rattle.domain.specs.declared.Poisoned.TheVariants as Poisoned
 use Rattle.domain.specs.Domain.{first_kept}
 use Rattle.completion.specs.declared.Reply.{Reply}
-use Rattle.completion.specs.declared.Reply.TheVariants as Reply
 use Rattle.model.specs.declared.{Opening.Opening, Lengths.Lengths, Kind.Kind, Row.Row, Request.Request, Call.Call}
-use Rattle.model.specs.declared.Kind.TheVariants as Kind
-use Rattle.model.specs.declared.Call.TheVariants as Call
 use Rattle.model.specs.State.{State}
 use Rattle.model.specs.Opening.{Plan, plan_in}
 use Rattle.step.specs.Rules.{Input, Input.answered, Input.flushed, Fate, Fate.away, Fate.awaits, Fate.ends, Fate.rejected, rules}

@@ -6,13 +6,7 @@ use Rattle.domain.specs.declared.FirstCause.{FirstCause}
 use Rattle.platform.specs.declared.{Answer.Answer, Flushed.Flushed}
 use Rattle.completion.specs.declared.Context.TheVariants as Context
 use Rattle.completion.specs.declared.{Refusal.Refusal, Reply.Reply}
-use Rattle.completion.specs.declared.Refusal.TheVariants as Refusal
-use Rattle.completion.specs.declared.Reply.TheVariants as Reply
 use Rattle.model.specs.declared.{Lengths.Lengths, Kind.Kind, Awaits.Awaits, Request.Request, Call.Call, Asked.Asked}
-use Rattle.model.specs.declared.Kind.TheVariants as Kind
-use Rattle.model.specs.declared.Awaits.TheVariants as Awaits
-use Rattle.model.specs.declared.Call.TheVariants as Call
-use Rattle.model.specs.declared.Asked.TheVariants as Asked
 use Rattle.model.specs.State.{State}
 use Rattle.model.specs.Opening.{Plan}
 use Rattle.step.specs.Questions.{ask, region_at, first_no, write_questions, read_questions, whole_of}

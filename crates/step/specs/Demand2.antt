@@ -2,7 +2,7 @@
 -- other operation writing its bytes meanwhile, act together like one transfer of every byte to or from its mapped card offset, and touch no other
 -- byte". Stated over the table's own replies, rows and pool, with any other calls in between. The card follows what the row under a tag awaits
 -- (`card_by`); that is what the last reply under the tag asks the host for: `.asked` below. Proved in proofs/Demand2.antt (demand2).
-use Rattle.std.specs.Prelude.{◌≡◌, ◌≢◌, ◌⊎◌, Bool, true, false, ◌||◌, List, [], ◌∷◌, ◌++◌, ℕ, suc, ◌+◌, ◌-◌, ◌≤◌, ◌<◌, length, get_or, drop, eqb}
+use Rattle.std.specs.Prelude.{◌≡◌, ◌≢◌, ◌⊎◌, Bool, true, false, ◌||◌, List, [], ◌∷◌, ◌++◌, ℕ, suc, ◌+◌, ◌≤◌, ◌<◌, length, get_or, drop, eqb}
 use Rattle.std.proofs.Math.Option.{Option, none, some}
 use Rattle.layout.specs.Pick.{pick}
 use Rattle.regionmap.specs.Map.{Map, place, pieces}
@@ -12,12 +12,8 @@ use Rattle.posix.specs.Transfer.{gathered}
 use Rattle.domain.specs.declared.Poisoned.{Poisoned}
 use Rattle.platform.specs.declared.Flushed.{Flushed}
 use Rattle.completion.specs.declared.{WriteTicket.WriteTicket, Outcome.Outcome, Completion.Completion, Reply.Reply}
-use Rattle.completion.specs.declared.Outcome.TheVariants as Outcome
 use Rattle.completion.specs.declared.Buffer.TheVariants as Buffer
-use Rattle.completion.specs.declared.Reply.TheVariants as Reply
 use Rattle.model.specs.declared.{Opening.Opening, Kind.Kind, Split.Split, Awaits.Awaits, Row.Row, Request.Request}
-use Rattle.model.specs.declared.Kind.TheVariants as Kind
-use Rattle.model.specs.declared.Awaits.TheVariants as Awaits
 use Rattle.model.specs.declared.Call.TheVariants as Call
 use Rattle.model.specs.State.{State}
 use Rattle.model.specs.Opening.{Plan}

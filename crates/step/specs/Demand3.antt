@@ -12,8 +12,6 @@ use Rattle.regionmap.specs.Map.{place}
 use Rattle.posix.specs.Posix.{Card}
 use Rattle.model.specs.declared.Kind.TheVariants as Kind
 use Rattle.model.specs.declared.{Awaits.Awaits, Row.Row, Call.Call}
-use Rattle.model.specs.declared.Awaits.TheVariants as Awaits
-use Rattle.model.specs.declared.Call.TheVariants as Call
 use Rattle.model.specs.State.{State, live_rows}
 use Rattle.step.specs.Questions.{region_at, byte_at}
 use Rattle.step.specs.Rules.{piece_length, is_whole, is_refusal, Input, Input.answered, Input.flushed, range_start, range_end}

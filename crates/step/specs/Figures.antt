@@ -12,13 +12,9 @@ use Rattle.domain.specs.declared.FirstCause.{FirstCause}
 use Rattle.platform.specs.declared.Answer.TheVariants as Answer
 use Rattle.platform.specs.declared.Flushed.TheVariants as Flushed
 use Rattle.completion.specs.declared.{WriteTicket.WriteTicket, Range.Range, Outcome.Outcome, Completion.Completion, Refusal.Refusal, Reply.Reply}
-use Rattle.completion.specs.declared.Outcome.TheVariants as Outcome
 use Rattle.completion.specs.declared.Buffer.TheVariants as Buffer
-use Rattle.completion.specs.declared.Refusal.TheVariants as Refusal
-use Rattle.completion.specs.declared.Reply.TheVariants as Reply
 use Rattle.completion.specs.Numbers.{number, Values, Values.nothing, Values.region, Values.range, values}
 use Rattle.model.specs.declared.{Opening.Opening, Lengths.Lengths, Request.Request, Call.Call}
-use Rattle.model.specs.declared.Call.TheVariants as Call
 use Rattle.model.specs.State.{State}
 use Rattle.model.specs.Opening.{opened, plans_in, opens}
 use Rattle.step.specs.Questions.{region_at}

@@ -7,7 +7,6 @@ use Rattle.posix.specs.Posix.{Card}
 use Rattle.platform.specs.declared.Answer.TheVariants as Answer
 use Rattle.platform.specs.declared.Flushed.TheVariants as Flushed
 use Rattle.model.specs.declared.{Request.Request, Call.Call}
-use Rattle.model.specs.declared.Call.TheVariants as Call
 use Rattle.model.specs.State.{State}
 use Rattle.model.specs.Opening.{opens}
 use Rattle.step.specs.Run.{Made.calls, Event, run, opened_by, after}

@@ -10,11 +10,9 @@ use Rattle.posix.specs.Transfer.{CardAndPool, Operation, wrote, read_in, whole, 
 use Rattle.domain.specs.declared.FirstCause.{FirstCause}
 use Rattle.domain.specs.declared.Poisoned.TheVariants as Poisoned
 use Rattle.completion.specs.declared.Refusal.{Refusal}
-use Rattle.completion.specs.declared.Refusal.TheVariants as Refusal
 use Rattle.completion.specs.declared.Reply.TheVariants as Reply
 use Rattle.completion.specs.Numbers.{number}
 use Rattle.model.specs.declared.{Opening.Opening, Lengths.Lengths, Split.Split, Request.Request, Call.Call, Lookup.Lookup, Asked.Asked}
-use Rattle.model.specs.declared.Asked.TheVariants as Asked
 use Rattle.model.specs.State.{State, Region}
 use Rattle.model.specs.Opening.{among, opened, plans_in, opens}
 use Rattle.step.specs.Questions.{region_at, first_no, write_questions, read_questions, whole_of}

@@ -7,11 +7,8 @@ use Rattle.regionmap.specs.Map.{place}
 use Rattle.iobuf.specs.Turn.{stretch}
 use Rattle.posix.specs.Posix.{Card, pwrite}
 use Rattle.completion.specs.declared.{Completion.Completion, Refusal.Refusal, Reply.Reply}
-use Rattle.completion.specs.declared.Reply.TheVariants as Reply
 use Rattle.model.specs.declared.Kind.TheVariants as Kind
 use Rattle.model.specs.declared.{Awaits.Awaits, Row.Row, Call.Call}
-use Rattle.model.specs.declared.Awaits.TheVariants as Awaits
-use Rattle.model.specs.declared.Call.TheVariants as Call
 use Rattle.model.specs.State.{State}
 use Rattle.model.specs.Opening.{Plan}
 use Rattle.step.specs.Questions.{region_at, held_at, byte_at}

@@ -6,7 +6,6 @@ use Rattle.std.specs.Prelude.{◌≡◌, true, false, List, [], ◌∷◌, ◌++
 use Rattle.regionmap.specs.Words.{position_of}
 use Rattle.posix.specs.Posix.{Card}
 use Rattle.model.specs.declared.{Opening.Opening, Lengths.Lengths, Request.Request, Call.Call}
-use Rattle.model.specs.declared.Call.TheVariants as Call
 use Rattle.model.specs.State.{State}
 use Rattle.model.specs.Opening.{opens}
 use Rattle.step.specs.Run.{Made.calls, Event, next, Start, opened_by, after}

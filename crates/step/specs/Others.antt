@@ -7,12 +7,8 @@ use Rattle.domain.specs.declared.FirstCause.{FirstCause}
 use Rattle.domain.specs.declared.Poisoned.TheVariants as Poisoned
 use Rattle.platform.specs.declared.Answer.{Answer as CardAnswer}
 use Rattle.completion.specs.declared.{Buffer.Buffer, Completion.Completion, Reply.Reply}
-use Rattle.completion.specs.declared.Buffer.TheVariants as Buffer
-use Rattle.completion.specs.declared.Reply.TheVariants as Reply
 use Rattle.model.specs.declared.{Lengths.Lengths, Gate.Gate, Kind.Kind, Split.Split, Request.Request, Call.Call}
-use Rattle.model.specs.declared.Kind.TheVariants as Kind
 use Rattle.model.specs.declared.Awaits.TheVariants as Awaits
-use Rattle.model.specs.declared.Call.TheVariants as Call
 use Rattle.model.specs.declared.Lookup.TheVariants as Lookup
 use Rattle.model.specs.State.{Owner.host, Owner.lost, State, freed}
 use Rattle.step.specs.Questions.{region_at, held_at}

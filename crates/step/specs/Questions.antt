@@ -5,13 +5,8 @@ use Rattle.layout.specs.Block.{on_block}
 use Rattle.regionmap.specs.declared.Position.{Position}
 use Rattle.regionmap.specs.Words.{position_of}
 use Rattle.domain.specs.declared.Poisoned.{Poisoned}
-use Rattle.domain.specs.declared.Poisoned.TheVariants as Poisoned
 use Rattle.completion.specs.declared.{Context.Context, Refusal.Refusal}
-use Rattle.completion.specs.declared.Context.TheVariants as Context
-use Rattle.completion.specs.declared.Refusal.TheVariants as Refusal
 use Rattle.model.specs.declared.{Counts.Counts, Gate.Gate, Request.Request, Asked.Asked}
-use Rattle.model.specs.declared.Gate.TheVariants as Gate
-use Rattle.model.specs.declared.Asked.TheVariants as Asked
 use Rattle.model.specs.State.{Region, no_region, Owner, Owner.host, Owner.table, Owner.lost, State}
 
 -- a request's whole length, and where its range ends

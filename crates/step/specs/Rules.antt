@@ -8,20 +8,10 @@ use Rattle.regionmap.specs.Map.{Map, place, piece_size}
 use Rattle.regionmap.specs.Words.{offset_of}
 use Rattle.iobuf.specs.Turn.{turned}
 use Rattle.domain.specs.declared.{Op.Op, OsError.OsError, FirstCause.FirstCause, Poisoned.Poisoned}
-use Rattle.domain.specs.declared.Op.TheVariants as Op
-use Rattle.domain.specs.declared.OsError.TheVariants as OsError
-use Rattle.domain.specs.declared.Poisoned.TheVariants as Poisoned
 use Rattle.domain.specs.Domain.{need_after}
 use Rattle.platform.specs.declared.{Answer.Answer, Flushed.Flushed}
-use Rattle.platform.specs.declared.Answer.TheVariants as Answer
-use Rattle.platform.specs.declared.Flushed.TheVariants as Flushed
 use Rattle.completion.specs.declared.{WriteTicket.WriteTicket, Range.Range, Outcome.Outcome, Buffer.Buffer, Refusal.Refusal}
-use Rattle.completion.specs.declared.Outcome.TheVariants as Outcome
-use Rattle.completion.specs.declared.Buffer.TheVariants as Buffer
-use Rattle.completion.specs.declared.Refusal.TheVariants as Refusal
 use Rattle.model.specs.declared.{Opening.Opening, Kind.Kind, Split.Split, Awaits.Awaits, Row.Row}
-use Rattle.model.specs.declared.Kind.TheVariants as Kind
-use Rattle.model.specs.declared.Awaits.TheVariants as Awaits
 use Rattle.model.specs.Opening.{Plan}
 use Rattle.model.specs.State.{receipt_made}
 use Rattle.step.specs.Questions.{byte_at}

@@ -4,10 +4,8 @@ use Rattle.layout.specs.Pick.{pick}
 use Rattle.regionmap.specs.Map.{place}
 use Rattle.regionmap.specs.Laws.{Lawful}
 use Rattle.completion.specs.declared.{Buffer.Buffer, Completion.Completion}
-use Rattle.completion.specs.declared.Buffer.TheVariants as Buffer
 use Rattle.model.specs.declared.{Opening.Opening, Awaits.Awaits, Row.Row}
 use Rattle.model.specs.declared.Kind.TheVariants as Kind
-use Rattle.model.specs.declared.Awaits.TheVariants as Awaits
 use Rattle.model.specs.State.{Region, Owner, Owner.host, Owner.table, Owner.lost, State, awaiting, live_rows}
 use Rattle.model.specs.Meaning.{Numbers, Room}
 use Rattle.step.specs.Questions.{region_at}

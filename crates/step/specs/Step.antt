@@ -10,16 +10,8 @@ use Rattle.domain.specs.Domain.{first_kept}
 use Rattle.completion.specs.declared.Context.TheVariants as Context
 use Rattle.completion.specs.declared.Refusal.TheVariants as Refusal
 use Rattle.completion.specs.declared.{Outcome.Outcome, Buffer.Buffer, Completion.Completion, Reply.Reply}
-use Rattle.completion.specs.declared.Buffer.TheVariants as Buffer
-use Rattle.completion.specs.declared.Reply.TheVariants as Reply
 use Rattle.model.specs.declared.{Lengths.Lengths, Counts.Counts, Kind.Kind, Split.Split, Gate.Gate, Awaits.Awaits, Row.Row, Request.Request}
-use Rattle.model.specs.declared.Kind.TheVariants as Kind
-use Rattle.model.specs.declared.Awaits.TheVariants as Awaits
 use Rattle.model.specs.declared.{Call.Call, Lookup.Lookup, Asked.Asked, Verdict.Verdict}
-use Rattle.model.specs.declared.Call.TheVariants as Call
-use Rattle.model.specs.declared.Lookup.TheVariants as Lookup
-use Rattle.model.specs.declared.Asked.TheVariants as Asked
-use Rattle.model.specs.declared.Verdict.TheVariants as Verdict
 use Rattle.model.specs.State.{Region, Owner, Owner.host, Owner.table, Owner.lost, State, regions_as, poison_as, counts_as, rows_as, free_as, ready_as}
 use Rattle.model.specs.State.{owners_as, pool_as, freed, live_rows}
 use Rattle.model.specs.Opening.{Plan}

@@ -1,5 +1,5 @@
 -- `domain::poison` meets its contract: each arm knows which case `p` is, and there the definition computes.
-use Rattle.std.proofs.Common.{sym, ap, rules}
+use Rattle.std.proofs.Common.{sym, ap}
 use Rattle.domain.specs.declared.Poisoned.{Poisoned}
 use Rattle.domain.specs.Domain.{first_kept}
 use Rattle.domain.proofs.poison.Goals as goal

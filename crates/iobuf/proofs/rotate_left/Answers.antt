@@ -4,7 +4,6 @@ use mathlib.Core.Path.{◌≡◌, sym}
 use native.Mathlib.Omega.{arith}
 use lib.ListN.{length, take}
 use lib.Seq.{length-take-le}
-use borrow.Author.Rules.{rules}
 use Rattle.iobuf.proofs.Laws.{turned_none, turned_all, turned_part}
 use Rattle.iobuf.proofs.rotate_left.Goals as goal
 use Rattle.iobuf.proofs.rotate_left.Goals.{After-lesser-end}

@@ -6,7 +6,6 @@ use native.Mathlib.Nat.{suc-mul, div-lt_iff_lt-mul, le-div_iff_mul-le}
 use native.Mathlib.Omega.{arith}
 use lib.ListN.{length, take, drop}
 use lib.Seq.{drop-drop}
-use borrow.Author.Rules.{rules}
 use Rattle.iobuf.specs.Turn.{turned, stretch, with_stretch, turned_in}
 use Rattle.iobuf.specs.TurnLaws.{Fits}
 use Rattle.iobuf.proofs.Laws.{turn_laws, turned_empty}

@@ -1,5 +1,4 @@
 -- `refusals::number_of` meets its contract: each arm knows which refusal it is, and there the definition computes.
-use borrow.Author.Rules.{rules}
 use Rattle.completion.specs.Numbers.{number}
 use Rattle.completion.proofs.refusals.number_of.Goals as goal
 

@@ -1,7 +1,6 @@
 -- `refusals::told_of` meets its contract: each arm knows which it is, and there the definition computes.
 use Rattle.completion.specs.Numbers.{context_values, values}
 use Rattle.completion.specs.Told.{told_values}
-use borrow.Author.Rules.{rules}
 use Rattle.completion.proofs.refusals.told_of.Goals as goal
 
 pub returns-in-ForeignPosition : goal.returns-in-ForeignPosition

@@ -1,5 +1,4 @@
 -- `moves::hop` meets its contract: what the second copy puts down is what the first took up.
-use borrow.Author.Rules.{rules}
 use Rattle.iobuf.proofs.Parts.{hopped}
 use Rattle.iobuf.proofs.moves.hop.Goals as goal
 

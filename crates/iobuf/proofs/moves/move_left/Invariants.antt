@@ -1,12 +1,9 @@
 -- `moves::move_left` meets its contract: before each turn the first `at` of the bytes from k on lie at the front, and from `at` on all is as it was.
 -- The measure is what is left to move.
-use mathlib.Core.Path.{◌≡◌, refl, sym, ap, ◌∙◌}
-use mathlib.Core.List.{List, ◌++◌}
-use Prim.Native.Nat.{ℕ, ◌+◌, ◌-◌, ◌≤◌}
-use native.Mathlib.Omega.{arith}
-use lib.ListN.{length-drop, length, take, drop}
-use lib.Seq.{length-take-le, length_front, take_all, paste}
-use Rattle.iobuf.proofs.Parts.{left_hop}
+use mathlib.Core.Path.{◌≡◌}
+use mathlib.Core.List.{◌++◌}
+use Prim.Native.Nat.{◌-◌, ◌≤◌}
+use lib.ListN.{length, take, drop}
 use Rattle.iobuf.proofs.moves.move_left.Given as goal
 
 abbrev pub invariant-loop-at : goal.invariant-loop-at

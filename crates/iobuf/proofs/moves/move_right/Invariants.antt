@@ -1,12 +1,9 @@
 -- `moves::move_right` meets its contract: before each turn the bytes from `end` on have been moved, and before end + k all is as it was.
 -- The measure is `end`.
-use mathlib.Core.Path.{◌≡◌, refl, sym, ap, ◌∙◌}
-use mathlib.Core.List.{append-nil, ◌++◌}
-use Prim.Native.Nat.{ℕ, ◌+◌, ◌-◌, ◌≤◌}
-use native.Mathlib.Omega.{arith}
+use mathlib.Core.Path.{◌≡◌}
+use mathlib.Core.List.{◌++◌}
+use Prim.Native.Nat.{◌+◌, ◌-◌, ◌≤◌}
 use lib.ListN.{length, take, drop}
-use lib.Seq.{length-take-le, length_front, take-length, paste}
-use Rattle.iobuf.proofs.Parts.{right_hop}
 use Rattle.iobuf.proofs.moves.move_right.Given as goal
 
 abbrev pub invariant-loop-end : goal.invariant-loop-end

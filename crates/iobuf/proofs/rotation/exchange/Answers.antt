@@ -1,9 +1,9 @@
 use mathlib.Core.Path.{◌≡◌, refl, sym, ap, ◌∙◌}
 use mathlib.Core.List.{◌++◌}
-use Prim.Native.Nat.{ℕ, ◌-◌, ◌≤◌}
+use Prim.Native.Nat.{ℕ}
 use native.Mathlib.Nat.{add-zero}
 use native.Mathlib.Omega.{arith}
-use lib.ListN.{take-append-drop, length, take, drop, length-set}
+use lib.ListN.{take-append-drop, take, drop, length-set}
 use Rattle.iobuf.specs.Exchange.{exchanged}
 use Rattle.iobuf.proofs.RotationParts.{exchange_next}
 use Rattle.iobuf.proofs.rotation.exchange.Goals as goal
@@ -19,12 +19,11 @@ pub bounds-s-k-in-loop-i : goal.bounds-s-k-in-loop-i
 bounds-s-k-in-loop-i c = simp length-set (omega arith)
 
 pub loop-i-preserved : goal.loop-i-preserved
-loop-i-preserved c =
-    (
-      omega arith,
-      simp length-set (omega arith),
-      exchange_next c.args.s.now c.loop-i.s c.args.k c.loop-i.i (omega arith) (omega arith) c.loop-i.invariant.2,
-    )
+loop-i-preserved c = (
+  omega arith,
+  simp length-set (omega arith),
+  exchange_next c.args.s.now c.loop-i.s c.args.k c.loop-i.i (omega arith) (omega arith) c.loop-i.invariant.2,
+)
 
 -- LEFT ?same-length
 -- same_length : tie.Need-same-length invariant-loop decreases-loop

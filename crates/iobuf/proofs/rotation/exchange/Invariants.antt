@@ -1,12 +1,8 @@
 -- `rotation::exchange` meets its contract: before each turn the first i bytes of the two sides have been exchanged. The measure is what is left to exchange.
-use mathlib.Core.Path.{◌≡◌, refl, sym, ap, ◌∙◌}
-use mathlib.Core.List.{◌++◌}
-use Prim.Native.Nat.{ℕ, ◌-◌, ◌≤◌}
-use native.Mathlib.Nat.{add-zero}
-use native.Mathlib.Omega.{arith}
-use lib.ListN.{take-append-drop, length, take, drop, length-set}
+use mathlib.Core.Path.{◌≡◌}
+use Prim.Native.Nat.{◌-◌, ◌≤◌}
+use lib.ListN.{length}
 use Rattle.iobuf.specs.Exchange.{exchanged}
-use Rattle.iobuf.proofs.RotationParts.{exchange_next}
 use Rattle.iobuf.proofs.rotation.exchange.Given as goal
 
 abbrev pub invariant-loop-i : goal.invariant-loop-i

@@ -4,7 +4,6 @@ use mathlib.Core.List.{◌++◌}
 use native.Mathlib.Omega.{arith}
 use lib.ListN.{length, take, drop, length-take, length-drop}
 use lib.Seq.{length-take-le}
-use borrow.Author.Rules.{rules}
 use Rattle.iobuf.proofs.ShiftParts.{front_held, put_behind}
 use Rattle.iobuf.proofs.shift.shift_left.Goals as goal
 use Rattle.iobuf.proofs.shift.shift_left.Goals.{After-copy, Start}

@@ -4,7 +4,6 @@ use mathlib.Core.List.{◌++◌}
 use Prim.Native.Nat.{ℕ, ◌-◌}
 use native.Mathlib.Omega.{arith}
 use lib.ListN.{length, take, drop, length-take, length-drop}
-use borrow.Author.Rules.{rules}
 use Rattle.iobuf.proofs.ShiftParts.{front_held, put_before, to_end}
 use Rattle.iobuf.proofs.shift.shift_right.Goals as goal
 use Rattle.iobuf.proofs.shift.shift_right.Goals.{After-copy, Start}

@@ -1,5 +1,5 @@
 -- `pieces::data_length` meets its contract: the map's data length is word 2.
-use Rattle.std.proofs.Common.{refl, rules}
+use Rattle.std.proofs.Common.{refl}
 use Rattle.regionmap.specs.Words.{map_in}
 use Rattle.regionmap.proofs.pieces.data_length.Goals as goal
 

@@ -1,5 +1,5 @@
 -- `pieces::locate` meets its contract, by those of the search and of an offset in a run.
-use Rattle.std.proofs.Common.{◌+◌, ◌-◌, ap, ◌∙◌, rules}
+use Rattle.std.proofs.Common.{◌+◌, ◌-◌, ap, ◌∙◌}
 use Rattle.regionmap.specs.declared.FoundRun.{FoundRun}
 use Rattle.regionmap.specs.Map.{place}
 use Rattle.regionmap.specs.Words.{offset_of}

@@ -1,5 +1,5 @@
 -- `pieces::offset_in` meets its contract, by that of the wrapping sum.
-use Rattle.std.proofs.Common.{ap, rules}
+use Rattle.std.proofs.Common.{ap}
 use Rattle.regionmap.specs.Words.{offset_of}
 use Rattle.regionmap.specs.Found.{wrap64}
 use Rattle.regionmap.proofs.pieces.offset_in.Goals as goal

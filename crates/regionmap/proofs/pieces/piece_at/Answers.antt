@@ -1,5 +1,5 @@
 -- `pieces::piece_at` meets its contract: one search gives the offset and the count.
-use Rattle.std.proofs.Common.{◌≡◌, ℕ, ◌+◌, ◌-◌, min, ap, ◌∙◌, ap₂, rules}
+use Rattle.std.proofs.Common.{◌≡◌, ℕ, ◌+◌, ◌-◌, min, ap, ◌∙◌, ap₂}
 use Rattle.regionmap.specs.declared.FoundRun.{FoundRun}
 use Rattle.regionmap.specs.Map.{place, map_run_left, map_run_end, piece_size}
 use Rattle.regionmap.specs.Words.{offset_of}

@@ -1,5 +1,5 @@
 -- `pieces::run_end` meets its contract, by those of the search, the data length and the smaller of two.
-use Rattle.std.proofs.Common.{min, ap, ◌∙◌, ap₂, rules}
+use Rattle.std.proofs.Common.{min, ap, ◌∙◌, ap₂}
 use Rattle.regionmap.specs.declared.FoundRun.{FoundRun}
 use Rattle.regionmap.specs.Map.{map_run_end}
 use Rattle.regionmap.specs.Words.{position_of}

@@ -1,5 +1,5 @@
 -- `pieces::run_left` meets its contract, by those of the run's end and the distance.
-use Rattle.std.proofs.Common.{◌-◌, ap, ◌∙◌, rules}
+use Rattle.std.proofs.Common.{◌-◌, ap, ◌∙◌}
 use Rattle.regionmap.specs.declared.Position.{Position}
 use Rattle.regionmap.specs.Map.{map_run_left}
 use Rattle.regionmap.proofs.pieces.run_left.Goals as goal

@@ -1,5 +1,5 @@
 -- `runs::run_of` meets its contract. Words too few hold no map; else the run found by halving is the map's (Found).
-use Rattle.std.proofs.Common.{ℕ, ◌<◌, List, get_or, ⊎_elim, arith, rules}
+use Rattle.std.proofs.Common.{ℕ, ◌<◌, List, get_or, arith, rules}
 use Rattle.regionmap.proofs.Found.{EndIs, end_next, end_last, found_first, found_further}
 use Rattle.regionmap.proofs.runs.run_of.Goals as goal
 use Rattle.regionmap.proofs.runs.run_of.Goals.{Joined-k-count, then-k-count, else-k-count}

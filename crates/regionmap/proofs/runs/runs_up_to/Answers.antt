@@ -1,5 +1,5 @@
-use Rattle.std.proofs.Common.{◌-◌, arith}
-use Rattle.regionmap.proofs.Found.{Bracket, all_runs, upper, lower, met}
+use Rattle.std.proofs.Common.{arith}
+use Rattle.regionmap.proofs.Found.{all_runs, upper, lower, met}
 use Rattle.regionmap.proofs.runs.runs_up_to.Goals as goal
 
 pub loop-lo-init : goal.loop-lo-init
