@@ -6,17 +6,11 @@ use Rattle.std.proofs.Math.Option.{Option, none, some}
 use Rattle.layout.specs.Pick.{pick}
 use Rattle.regionmap.specs.Words.{position_of}
 use Rattle.domain.specs.declared.{OsError.OsError, FirstCause.FirstCause}
-use Rattle.domain.specs.declared.OsError.TheVariants as OsError
 use Rattle.platform.specs.declared.Answer.TheVariants as Answer
 use Rattle.platform.specs.declared.Flushed.TheVariants as Flushed
 use Rattle.model.specs.declared.{Request.Request, Call.Call}
-use Rattle.model.specs.declared.Call.TheVariants as Call
 use Rattle.model.specs.Memory.{flag, op_in, gate_in}
 use Rattle.abi.specs.declared.{codes.AnswerForm.AnswerForm, codes.FlushedForm.FlushedForm, codes.GateForm.GateForm, codes.CauseForm.CauseForm}
-use Rattle.abi.specs.declared.codes.AnswerForm.TheVariants as AnswerForm
-use Rattle.abi.specs.declared.codes.FlushedForm.TheVariants as FlushedForm
-use Rattle.abi.specs.declared.codes.GateForm.TheVariants as GateForm
-use Rattle.abi.specs.declared.codes.CauseForm.TheVariants as CauseForm
 
 -- a request in 9 words, in the order of the sentence
 unfoldable pub request_in : List ℕ → Request

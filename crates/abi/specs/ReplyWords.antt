@@ -18,7 +18,6 @@
 -- Words that a case has no use for are 0.
 use Rattle.std.specs.Prelude.{List, [], ◌∷◌, ◌++◌, ℕ, take, replicate}
 use Rattle.completion.specs.declared.Reply.{Reply}
-use Rattle.completion.specs.declared.Reply.TheVariants as Reply
 use Rattle.completion.specs.Numbers.{number, Values, Values.nothing, Values.region, Values.range, Values.cause, values}
 use Rattle.model.specs.Memory.{op_word, has_word, raw_word, buffer_words, completion_words, word01}
 

@@ -4,12 +4,11 @@
 -- 0 generation, 1 the host's tag, 2 sequence number, 3 region handle, 4 buffer, 5 durable, 6 what it awaits: 0 nothing, 1 a write's piece, 2 a
 -- read's piece, 3 a flush; 7 start and 8 end of the operation; of a piece 9 the whole length and 10 the bytes done; of a flush 9 volume, 10 region,
 -- 11 the region's generation, 12 need, 13 epoch. What a case has no use for is 0, and so are 14 and 15.
-use Rattle.std.specs.Prelude.{◌≡◌, ◌⊎◌, List, [], ◌∷◌, ◌++◌, ℕ, zero, suc, ◌+◌, ◌*◌, ◌/◌, ◌%◌, ◌^◌, ◌≤◌, ◌<◌, length, get_or, take, drop, set, replicate, eqb, ltb}
+use Rattle.std.specs.Prelude.{◌≡◌, ◌⊎◌, List, [], ◌∷◌, ℕ, zero, suc, ◌+◌, ◌*◌, ◌/◌, ◌%◌, ◌^◌, ◌≤◌, ◌<◌, length, get_or, take, drop, set, replicate, eqb, ltb}
 use Rattle.layout.specs.Pick.{pick}
 use Rattle.regionmap.specs.Words.{position_of}
 use Rattle.completion.specs.declared.WriteTicket.{WriteTicket}
 use Rattle.model.specs.declared.{Awaits.Awaits, Split.Split, Row.Row}
-use Rattle.model.specs.declared.Awaits.TheVariants as Awaits
 use Rattle.model.specs.declared.Kind.TheVariants as Kind
 use Rattle.model.specs.State.{freed}
 use Rattle.model.specs.Memory.{flag, word01, over}

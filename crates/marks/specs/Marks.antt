@@ -7,7 +7,6 @@ use Rattle.completion.specs.declared.Context.TheVariants as Context
 use Rattle.completion.specs.declared.Refusal.TheVariants as Refusal
 use Rattle.completion.specs.declared.Reply.TheVariants as Reply
 use Rattle.model.specs.declared.{Gate.Gate, Counts.Counts, Row.Row, Call.Call}
-use Rattle.model.specs.declared.Gate.TheVariants as Gate
 use Rattle.model.specs.Memory.{Lent, flag, op_word, has_word, raw_word, ErrorFits, poison_in, state_in, settings_in}
 use Rattle.model.specs.Memory.{POISON, CAUSE_OP, CAUSE_HAS, CAUSE_RAW, GATE}
 use Rattle.model.specs.Opening.{HEAD}

@@ -1,6 +1,6 @@
 -- The questions in groups, as the code asks them, come to the list of the definition: the first no of two groups is that of both lists, and what
 -- the code reads from the words is what the state holds.
-use Rattle.std.proofs.Common.{◌≡◌, ℕ, ◌<◌, ◌≤◌, Bool, ltb, List, [], ◌∷◌, ◌++◌, map, length, get_or, take, sym, refl, ap, ◌∙◌, subst, le-ltb, lt-ltb}
+use Rattle.std.proofs.Common.{◌≡◌, ℕ, ◌<◌, ◌≤◌, Bool, ltb, List, [], ◌∷◌, ◌++◌, map, get_or, take, sym, refl, ap, ◌∙◌, subst, le-ltb, lt-ltb}
 use Rattle.domain.specs.declared.Poisoned.{Poisoned}
 use Rattle.completion.specs.declared.Context.{Context}
 use Rattle.completion.specs.declared.Context.TheVariants.{None as bare, Region as with_region}

@@ -1,8 +1,8 @@
 -- Who holds a buffer, read off the owners' words: within the pool it is the word's owner, past it nobody.
-use Rattle.std.proofs.Common.{◌≡◌, ℕ, zero, suc, ◌<◌, ◌≤◌, min, Bool, true, false, eqb, List, [], ◌∷◌, map, length, get_or, take, sym, refl, ap, ◌∙◌, le_trans, le_of_suc-le-suc, not-suc-le-zero, arith, length-take, get_or-take}
+use Rattle.std.proofs.Common.{◌≡◌, ℕ, zero, suc, ◌<◌, ◌≤◌, min, Bool, true, false, eqb, List, [], ◌∷◌, map, length, get_or, take, sym, refl, ap, ◌∙◌, le_of_suc-le-suc, not-suc-le-zero, arith, length-take, get_or-take}
 use lib.ListN.{length-map, get_or-map, get_or-eq_default}
 use Rattle.layout.specs.Pick.{pick}
-use Rattle.model.specs.State.{Owner, Owner.host, Owner.table, Owner.lost}
+use Rattle.model.specs.State.{Owner.host, Owner.table, Owner.lost}
 use Rattle.model.specs.Memory.{owner_in}
 use Rattle.step.specs.Questions.{is_host}
 

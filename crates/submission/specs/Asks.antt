@@ -2,7 +2,6 @@
 use Rattle.std.specs.Prelude.{◌≡◌, ℕ, ◌<◌, ◌≤◌, Bool, List, [], ◌∷◌, map, length, take}
 use Rattle.domain.specs.declared.Poisoned.{Poisoned}
 use Rattle.completion.specs.declared.Context.{Context}
-use Rattle.completion.specs.declared.Context.TheVariants as Context
 use Rattle.model.specs.declared.{Opening.Opening, Counts.Counts, Request.Request, Asked.Asked}
 use Rattle.model.specs.State.{State, Region}
 use Rattle.model.specs.Memory.{settings_in, poison_in, owner_in}

@@ -1,13 +1,11 @@
 -- What the functions of a submission are promised to give, for tables whose parts lie in the words that they are lent.
-use Rattle.std.specs.Prelude.{◌≡◌, ℕ, ◌+◌, true, false, List, map, slice_index}
+use Rattle.std.specs.Prelude.{◌≡◌, ℕ, ◌+◌, true, List, slice_index}
 use Rattle.regionmap.specs.declared.{FoundPiece.FoundPiece, Position.Position}
 use Rattle.regionmap.specs.Words.{position_of}
 use Rattle.regionmap.specs.Found.{wrap64}
 use Rattle.model.specs.declared.{Counts.Counts, Request.Request, Row.Row, Asked.Asked, Kind.Kind, Verdict.Verdict}
-use Rattle.model.specs.declared.Asked.TheVariants as Asked
-use Rattle.model.specs.declared.Verdict.TheVariants as Verdict
 use Rattle.model.specs.State.{State}
-use Rattle.model.specs.Memory.{Lent, lengths_of, same_lengths, state_in}
+use Rattle.model.specs.Memory.{lengths_of, same_lengths, state_in}
 use Rattle.step.specs.Sound.{Sound}
 use Rattle.memory.specs.Piece.{PieceIn}
 use Rattle.optable.specs.Called.{lent_of}

@@ -3,7 +3,6 @@ use Rattle.std.specs.Prelude.{ℕ, true, List, slice_set}
 use Rattle.regionmap.specs.Found.{wrap64}
 use Rattle.completion.specs.declared.Reply.TheVariants as Reply
 use Rattle.model.specs.declared.{Row.Row, Request.Request, Verdict.Verdict}
-use Rattle.model.specs.declared.Verdict.TheVariants as Verdict
 use Rattle.step.specs.Step.{queue_tag, claimed_by}
 use Rattle.optable.specs.declared.Frees.TheVariants as Frees
 use Rattle.optable.specs.declared.touched.Touched.{Touched}
