@@ -1,4 +1,5 @@
 -- `codes::answer_form` meets its contract: each arm knows the form, or which forms it is not.
+use native.Mathlib.Omega.{arith}
 use borrow.Author.Tests.{ne_eqb}
 use Rattle.layout.specs.Pick.{pick}
 use Rattle.abi.specs.Asked.{answer_form}
@@ -24,4 +25,4 @@ pub returns-in_default : goal.returns-in_default
 unfolding answer_form pick
 returns-in_default c =
     let n = c.args.form in
-    rw (ne_eqb n 0 c.in_default.in_default-own.rest.0.0.0.1, ne_eqb n 1 c.in_default.in_default-own.rest.0.0.1, ne_eqb n 2 c.in_default.in_default-own.rest.0.1, ne_eqb n 3 c.in_default.in_default-own.rest.1)
+    rw (ne_eqb n 0 (omega arith), ne_eqb n 1 (omega arith), ne_eqb n 2 (omega arith), ne_eqb n 3 (omega arith))

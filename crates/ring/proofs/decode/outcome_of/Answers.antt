@@ -1,4 +1,5 @@
 -- `decode::outcome_of` meets its contract: each arm knows word 1, or which words it is not, and the parts are what the callees ensure.
+use native.Mathlib.Omega.{arith}
 use borrow.Author.Tests.{ne_eqb}
 use Rattle.layout.specs.Pick.{pick}
 use lib.ListN.{get_or}
@@ -41,4 +42,4 @@ pub returns-in_default : goal.returns-in_default
 unfolding outcome_in pick
 returns-in_default c =
     let n = get_or c.args.w.now 1 0 in
-    rw (ne_eqb n 1 c.in_default.in_default-own.rest.0.0.0.0.0.0.0.1, ne_eqb n 2 c.in_default.in_default-own.rest.0.0.0.0.0.0.1, ne_eqb n 3 c.in_default.in_default-own.rest.0.0.0.0.0.1, ne_eqb n 4 c.in_default.in_default-own.rest.0.0.0.0.1, ne_eqb n 5 c.in_default.in_default-own.rest.0.0.0.1, ne_eqb n 6 c.in_default.in_default-own.rest.0.0.1, ne_eqb n 7 c.in_default.in_default-own.rest.0.1, ne_eqb n 8 c.in_default.in_default-own.rest.1, c.cause_of-e.ensures)
+    rw (ne_eqb n 1 (omega arith), ne_eqb n 2 (omega arith), ne_eqb n 3 (omega arith), ne_eqb n 4 (omega arith), ne_eqb n 5 (omega arith), ne_eqb n 6 (omega arith), ne_eqb n 7 (omega arith), ne_eqb n 8 (omega arith), c.cause_of-e.ensures)
