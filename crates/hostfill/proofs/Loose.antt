@@ -27,9 +27,6 @@ use Rattle.settle.specs.Finished.{plan_with, PieceFits}
 use Rattle.arrival.specs.UnderWay.{PieceUnderWay, UnderWay}
 use Rattle.arrival.proofs.Turned.{row_at_lem}
 use Rattle.arrival.proofs.Fitting.{under_way_fits}
-use types.Run.{OneOf, miss}
-use denote.Enum.Declared.{tag_of}
-use Rattle.model.specs.contracts.Awaits.{the_type}
 use Rattle.regionmap.specs.declared.Position.{Position}
 use Rattle.regionmap.specs.declared.FoundPiece.{FoundPiece}
 use Rattle.regionmap.specs.Found.{wrap64}
@@ -49,14 +46,11 @@ pub no_read : (s : State) (b end : ℕ) (row : Row) → reads row.awaits ≡ fal
 unfolding loose_row
 no_read s b end row e = sym (ap (λ (t : Bool). eqb row.buffer b && (t && leb end (loose (plan_at s row) row.awaits))) e ∙ and_false (eqb row.buffer b))
 
-abbrev others : List ℕ
-others = 0 ∷ 2 ∷ []
-
 -- what awaits no piece awaits none of a read
-pub no_piece : (a : Awaits) → OneOf others (tag_of the_type a) → reads a ≡ false
+pub no_piece : (a : Awaits) → ((k : Kind) (s : Split) → a ≡ Piece k s → ⊥) → reads a ≡ false
 unfolding reads
 no_piece Nothing w = refl
-no_piece (Piece k s) w = absurd (miss others 1 tt w)
+no_piece (Piece k s) w = absurd (w k s refl)
 no_piece (Flush t) w = refl
 
 -- what the piece found covers
@@ -71,7 +65,7 @@ module _ (store : List ℕ) (h : ℕ) (k : Kind) (sp : Split) (end : ℕ) where
       subst (λ (x : Kind). Covers store h x sp end (leb end found.count)) (sym e)
       (record { piece = found.count; under_way = subst (λ (x : Kind). PieceUnderWay store h x sp found.count) e (record { found = found; is = is; length = refl }); covers = refl })
 
-module _ (c : Counts) (rows : List Row) (store free ready owners pool : List ℕ) (is_open_lem : Open c (lent_of rows store free ready owners pool)) (i : ℕ) (below : i < (settings_in store).depth)
+module _ (c : Counts) (rows : List Row) (store free ready owners pool : List ℕ) (is_open : Open c (lent_of rows store free ready owners pool)) (i : ℕ) (below : i < (settings_in store).depth)
     (row : Row) (found : row ≡ get_or rows i (freed 0)) where
   abbrev l : Lent
   l = lent_of rows store free ready owners pool
@@ -89,7 +83,7 @@ module _ (c : Counts) (rows : List Row) (store free ready owners pool : List ℕ
   module _ (k : Kind) (sp : Split) (e : row.awaits ≡ Piece k sp) where
     there : InTable s row
     unfolding awaiting
-    there = subst (InTable s) (sym at) (is_open_lem.sound.in_table i below_depth (ap (λ (x : Row). awaiting x.awaits) (sym at) ∙ ap awaiting e))
+    there = subst (InTable s) (sym at) (is_open.sound.in_table i below_depth (ap (λ (x : Row). awaiting x.awaits) (sym at) ∙ ap awaiting e))
 
     among : row.handle < (settings_in store).regions
     unfolding state_in
@@ -99,9 +93,9 @@ module _ (c : Counts) (rows : List Row) (store free ready owners pool : List ℕ
     piece_is : range_end row.awaits < 2 ^ 64 → (n : ℕ) → PieceUnderWay store row.handle k sp n → n ≡ piece_length (plan_at s row) k sp
     unfolding PieceFits UnderWay piece_length plan_with plan_at plan_of live_of
     piece_is small n u =
-        (under_way_fits c rows store free ready owners pool is_open_lem.sound is_open_lem.lengths row.handle among there.region (live_of (region_at s row.handle)) n (Piece k sp)
+        (under_way_fits c rows store free ready owners pool is_open.sound is_open.lengths row.handle among there.region (live_of (region_at s row.handle)) n (Piece k sp)
         (subst SplitFits e there.split) (subst (λ (a : Awaits). range_end a ≤ (region_at s row.handle).map.data_length) e there.in_data_lem) (subst (λ (a : Awaits). range_end a < 2 ^ 64) e small)
-        u (is_open_lem.sound.each row.handle there.region).generation).0
+        u (is_open.sound.each row.handle there.region).generation).0
 
     by_kind : (k' : Kind) → k ≡ k' → (b end : ℕ) → row.buffer ≡ b → range_end row.awaits < 2 ^ 64 → (r : Bool) → Covers store row.handle k' sp end r → r ≡ loose_row s b end row
     unfolding Covers loose_row reads loose

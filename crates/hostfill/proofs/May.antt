@@ -48,7 +48,7 @@ within [] n h = absurd (omega (arith, h))
 within (x ∷ l) zero h = refl
 within (x ∷ l) (suc n) h = within l n (omega (arith, h))
 
-module _ (c : Counts) (rows : List Row) (store free ready owners pool : List ℕ) (is_open_lem : Open c (lent_of rows store free ready owners pool)) (b at n : ℕ) where
+module _ (c : Counts) (rows : List Row) (store free ready owners pool : List ℕ) (is_open : Open c (lent_of rows store free ready owners pool)) (b at n : ℕ) where
   abbrev s : State
   s = state_in c (lent_of rows store free ready owners pool)
 
@@ -57,7 +57,7 @@ module _ (c : Counts) (rows : List Row) (store free ready owners pool : List ℕ
 
   as_many : length (take (settings_in store).buffers owners) ≡ (settings_in store).buffers
   unfolding state_in
-  as_many = sym (length-map (take (settings_in store).buffers owners) owner_in) ∙ is_open_lem.sound.owners
+  as_many = sym (length-map (take (settings_in store).buffers owners) owner_in) ∙ is_open.sound.owners
 
   held_is : b < (settings_in store).buffers → held_at s b ≡ eqb (get_or owners b 0) 0
   unfolding held_at state_in owner_in pick

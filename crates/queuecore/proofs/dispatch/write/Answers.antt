@@ -8,15 +8,11 @@ use Rattle.step.proofs.Answers.{write_passed}
 use Rattle.optable.specs.Called.{place_of}
 use Rattle.queuecore.proofs.Touching.{went, submits}
 use borrow.Author.Rules.{rules}
-use Rattle.queuecore.proofs.dispatch.write.Statement.{statement}
-use Rattle.queuecore.proofs.dispatch.write.Tie as tie
+use Rattle.queuecore.proofs.dispatch.write.Goals as goal
 
-returns : tie.Need-returns
+pub returns : goal.returns
 unfolding called write_verdict place_of
 returns c =
-    let a = c.before.before.before.before.before.before.before.before.before.args in
+    let a = c.args in
     submits write_verdict (Write a.q) a.q (λ x. refl) (λ x. went (first_no (write_questions x (region_at x a.q.handle) a.q)) x (Page (start_of a.q) (end_of a.q)) a.q (write_passed x a.q))
-    a.counts a.rows a.store.now a.free.now a.owners.now refl c.before.before.before.before.write.result c.before.before.before.before.write.ensures a.row c.before.before.issue.result _ c.before.before.issue.ensures.0 c.before.before.issue.ensures.1
-
-pub write_spec : {M : Type 1} → statement M
-write_spec = tie.close (tie.spec (λ c κs. search rules) (λ c κs. search rules) (λ c. search rules) returns)
+    a.counts a.rows a.store.now a.free.now a.owners.now refl c.write-v.result c.write-v.ensures a.row c.issue.result _ c.issue.ensures.0 c.issue.ensures.1
