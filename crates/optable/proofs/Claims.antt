@@ -35,3 +35,11 @@ module _ (at : ℕ) (row : Row) (rows : List Row) where
   releases_none Rejected l = sym (set_out rows at row l)
   releases_none Completed l = sym (set_out rows at row l)
   releases_none Taken l = refl
+
+-- claimed and then released, the row stands at its place
+pub claimed_released : (f : Frees) (at : ℕ) (row : Row) (rows : List Row) → released_in f at row (claimed_in f at row rows) ≡ set rows at row
+unfolding claimed_in released_in frees_row pick
+claimed_released Nothing at row rows = refl
+claimed_released Rejected at row rows = refl
+claimed_released Completed at row rows = refl
+claimed_released Taken at row rows = refl

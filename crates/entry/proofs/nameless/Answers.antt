@@ -1,0 +1,20 @@
+-- `entry::nameless` meets its contract, by the lengths.
+use mathlib.Core.Path.{sym, ap, ◌∙◌}
+use mathlib.Core.Bool.{Bool}
+use Rattle.layout.specs.Pick.{pick}
+use Rattle.completion.specs.declared.Refusal.TheVariants.{Unfit}
+use Rattle.completion.specs.declared.Reply.TheVariants.{No as turnedAway}
+use Rattle.abi.specs.ReplyWords.{reply_words, unknown_words}
+use Rattle.entry.specs.Entry.{nameless_words}
+use borrow.Author.Rules.{rules}
+use Rattle.entry.proofs.nameless.Goals as goal
+
+pub returns-then-fits : goal.returns-then-fits
+unfolding nameless_words pick
+returns-then-fits c =
+    c.put_unknown.ensures ∙ sym (ap (λ (b : Bool). pick b unknown_words (reply_words (turnedAway Unfit))) (sym c.fits.ensures ∙ c.if-fits.true))
+
+pub returns : goal.returns
+unfolding nameless_words pick
+returns c =
+    c.put_whole.ensures ∙ sym (ap (λ (b : Bool). pick b unknown_words (reply_words (turnedAway Unfit))) (sym c.fits.ensures ∙ c.if-fits.false))

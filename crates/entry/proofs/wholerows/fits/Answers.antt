@@ -1,0 +1,14 @@
+-- `wholerows::fits` meets its contract.
+use Rattle.entry.proofs.Fitting.{whole_fits, cut_unfit}
+use borrow.Author.Rules.{rules}
+use Rattle.entry.proofs.wholerows.fits.Goals as goal
+
+pub returns-then-rows-eq0 : goal.returns-then-rows-eq0
+returns-then-rows-eq0 c =
+    let a = c.args in
+    whole_fits a.rows.now a.store.now a.free.now a.ready.now a.owners.now a.pool.now c.if-rows-eq0.true c.fits.result c.fits.ensures
+
+pub returns : goal.returns
+returns c =
+    let a = c.args in
+    cut_unfit a.rows.now a.store.now a.free.now a.ready.now a.owners.now a.pool.now c.if-rows-eq0.false
