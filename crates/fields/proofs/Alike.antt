@@ -1,7 +1,7 @@
 -- When two stretches are the same: as long, and alike from each place on.
 use mathlib.Core.Path.{◌≡◌, refl}
 use mathlib.Core.List.{List, [], ◌∷◌}
-use mathlib.Core.Bool.{true, false, and_false}
+use mathlib.Core.Bool.{true, false, and-false}
 use Prim.Native.Nat.{ℕ, ◌+◌, ◌≤◌, ◌<◌}
 use native.Mathlib.Omega.{arith}
 use lib.ListN.{length, drop, get_or, drop_of_length-le}
@@ -17,7 +17,7 @@ unfolding eq_bytes
 other_length [] [] h = absurd (h refl)
 other_length [] (d ∷ ds) h = refl
 other_length (c ∷ cs) [] h = refl
-other_length (c ∷ cs) (d ∷ ds) h = rw (other_length cs ds (λ e. h (omega arith))) (and_false (eqb c d))
+other_length (c ∷ cs) (d ∷ ds) h = rw (other_length cs ds (λ e. h (omega arith))) (and-false (eqb c d))
 
 module _ (a b : List ℕ) (i : ℕ) where
   -- the bytes at a place

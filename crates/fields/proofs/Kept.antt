@@ -12,7 +12,6 @@ use borrow.Author.Tests.{ltb-true, ltb-false, lt-ltb, le-ltb, leb-true, le-leb, 
 use Rattle.layout.specs.Pick.{pick}
 use Rattle.fields.specs.declared.reader.Reader.{Reader}
 use Rattle.fields.specs.declared.reader.Front.{Front}
-use Rattle.fields.specs.declared.reader.Front.TheVariants as Front
 use Rattle.fields.specs.Trace.{Kept, line_read, front_of}
 
 -- what is read of the bytes kept, by their front

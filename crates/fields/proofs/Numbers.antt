@@ -1,7 +1,7 @@
 -- When a field is a number: exactly where it has 1 to 20 bytes, all digits, whose value is below 2^64; and how value and digits go from a place on.
 use mathlib.Core.Path.{◌≡◌, refl, ap}
 use mathlib.Core.List.{List, [], ◌∷◌}
-use mathlib.Core.Bool.{true, false, and_false}
+use mathlib.Core.Bool.{true, false, and-false}
 use Prim.Native.Nat.{ℕ, zero, suc, ◌+◌, ◌-◌, ◌*◌, ◌^◌, ◌≤◌, ◌<◌}
 use native.Mathlib.Omega.{arith}
 use lib.ListN.{length, drop, get_or, drop_of_length-le}
@@ -71,7 +71,7 @@ module _ (l : List ℕ) (i : ℕ) (h : i < length l) where
 
   pub digits_above : 57 < get_or l i 0 → all_digits (drop i l) ≡ false
   unfolding all_digits digit
-  digits_above a = rw (from_on l i h, lt-leb (get_or l i 0) 57 a, and_false (leb 48 (get_or l i 0)))
+  digits_above a = rw (from_on l i h, lt-leb (get_or l i 0) 57 a, and-false (leb 48 (get_or l i 0)))
 
 -- the fields up to the k-th are numbers where the k-th is one and those before it are
 pub numbers_on : (k : ℕ) (cs : List ℕ) → 0 < k → (number_in (field k cs)).is ≡ true → are_numbers k cs ≡ are_numbers (k - 1) cs

@@ -2,7 +2,6 @@
 use Rattle.std.specs.Prelude.{◌≡◌, List, ℕ, min, length, take, get_or, leb, ltb, eqb}
 use Rattle.layout.specs.Pick.{pick}
 use Rattle.fields.specs.declared.{reader.Reader.Reader, reader.Front.Front}
-use Rattle.fields.specs.declared.reader.Front.TheVariants as Front
 
 -- what a reader keeps of the bytes so far: the first 4,096, and whether there were more
 pub record Kept (r : Reader) (line bytes : List ℕ) : Type 0 where

@@ -5,6 +5,7 @@ ghost use Rattle.std.specs.Prelude.{◌≡◌, ℕ, ◌≤◌, false, ◌&&◌, 
 ghost use Rattle.input.specs.Input.{Scanned, Fresh, Read, Next, Begun};
 
 use fields::reader::Reader;
+use std::io::{Print, Stdin, Stdout};
 
 // Where the input stands: the line as far as it was read, its number, whether it is complete, what is left of the bytes read last, and whether the
 // input has ended.
@@ -59,11 +60,21 @@ fn is_last(got: usize, kept: usize) -> bool
     false
 }
 
+// Reads bytes of the input, and tells how many: none where it has ended, and none where they cannot be read.
+fn read_some(mut stdin: Stdin, chunk: &mut [u8]) -> usize
+    ensures { result ≤ length chunk.new }
+{
+    match std::io::Read::read(&mut stdin, chunk) {
+        Ok(got) => got,
+        Err(_) => 0,
+    }
+}
+
 // More bytes; where there are none the input has ended, and what is left is its last line.
-fn more(i: Input, chunk: &mut [u8]) -> Input
+fn more(stdin: Stdin, i: Input, chunk: &mut [u8]) -> Input
     ensures { (line : List ℕ) → Read i result line line chunk.new }
 {
-    let got = io::count(libc::read(0, chunk), chunk);
+    let got = read_some(stdin, chunk);
     let reader = i.reader;
     Input {
         reader,
@@ -125,18 +136,18 @@ fn scan_left(i: Input, line: &mut [u8; 4096], chunk: &[u8]) -> Input
 }
 
 // Goes on to the end of a line, of what was read, or of the input.
-pub fn next(i: Input, line: &mut [u8; 4096], chunk: &mut [u8; 4096]) -> Input
+pub fn next(stdin: Stdin, i: Input, line: &mut [u8; 4096], chunk: &mut [u8; 4096]) -> Input
     ensures { Next i result line.old line.new chunk.old chunk.new }
 {
     let now = fresh(i);
     if now.at < now.got {
         return scan_left(now, line, chunk);
     }
-    more(now, chunk)
+    more(stdin, now, chunk)
 }
 
-// Prints the front of a buffer.
-pub fn print(out: &[u8], n: usize) {
+// Prints the front of a buffer. What cannot be printed is lost.
+pub fn print(stdout: Stdout, out: &[u8], n: usize) {
     let k = front(n, out);
-    io::write_all(1, &out[..k]);
+    let _ = stdout.write_all(&out[..k]);
 }

@@ -1,6 +1,6 @@
 -- The laws of the plan: by induction over the regions before, and over the further runs.
 use mathlib.Core.Path.{◌≡◌, refl, ap, ◌∙◌}
-use mathlib.Core.Bool.{false, and_false}
+use mathlib.Core.Bool.{false, and-false}
 use mathlib.Core.List.{List, [], ◌∷◌, ◌++◌}
 use Prim.Native.Nat.{ℕ, zero, suc, ◌+◌, ◌-◌, ◌*◌, ◌/◌, ◌≤◌, ◌<◌}
 use native.Mathlib.Omega.{arith}
@@ -52,7 +52,7 @@ crowded b cs h =
     let words = drop 2 (region_words cs) in
     let long = runs_length (get_or words 3 0) (drop 4 words) in
     let count = count_word cs in
-    rw (lt-leb (length (runs_in (get_or words 3 0) (drop 4 words))) 32 (omega arith)) (and_false (generation_rule (plan_in (region_words cs))))
+    rw (lt-leb (length (runs_in (get_or words 3 0) (drop 4 words))) 32 (omega arith)) (and-false (generation_rule (plan_in (region_words cs))))
 
 -- the plan with words laid over it behind the first k regions
 laid : List ℕ → ℕ → List ℕ → List ℕ

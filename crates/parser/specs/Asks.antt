@@ -7,8 +7,6 @@ use Rattle.model.specs.declared.Request.{Request}
 use Rattle.model.specs.declared.Call.{Call as CallOf}
 use Rattle.model.specs.declared.Call.TheVariants as Call
 use Rattle.parser.specs.declared.{forms.Said.Said, requests.Named.Named, requests.Asks.Asks}
-use Rattle.parser.specs.declared.forms.Said.TheVariants as Said
-use Rattle.parser.specs.declared.requests.Asks.TheVariants as Asks
 
 -- `w|r BUFFER POSITION LENGTH DURABLE TAG`: "handle 0, with its own volume, id and generation"
 unfoldable pub request_of : Named → ℕ → ℕ → ℕ → Bool → ℕ → Request

@@ -8,7 +8,6 @@ use Rattle.fields.specs.Trace.{line_read}
 use Rattle.fields.specs.Fields.{spaces, word_in, num, are_numbers, is_flag}
 use Rattle.fields.specs.Codes.{codes}
 use Rattle.parser.specs.declared.preamble.OpenLine.{OpenLine}
-use Rattle.parser.specs.declared.preamble.OpenLine.TheVariants as OpenLine
 
 -- `open`, `region`, `start`
 abbrev pub open_word : List ℕ

@@ -13,7 +13,6 @@ use Rattle.fields.specs.Fields.{spaces, field, is_number, word_in, num, are_numb
 use Rattle.fields.specs.Codes.{codes}
 use Rattle.parser.specs.Values.{is_raw, raw_in, is_cause, cause_in, gate_in, flag_in, request_in}
 use Rattle.parser.specs.declared.forms.Said.{Said}
-use Rattle.parser.specs.declared.forms.Said.TheVariants as Said
 
 -- `w|r BUFFER POSITION LENGTH DURABLE TAG`
 unfoldable pub own_in : Bool → List ℕ → Said

@@ -1,12 +1,9 @@
 -- What the fields of a call hold: errors, operations, causes, gates, flags and requests.
-use Rattle.std.specs.Prelude.{Bool, ◌&&◌, ◌||◌, List, [], ◌∷◌, ℕ, ◌^◌, ltb, eqb}
+use Rattle.std.specs.Prelude.{Bool, ◌&&◌, ◌||◌, List, ℕ, ◌^◌, ltb, eqb}
 use Rattle.layout.specs.Pick.{pick}
 use Rattle.regionmap.specs.Words.{position_of}
 use Rattle.domain.specs.declared.{Op.Op, OsError.OsError, FirstCause.FirstCause}
-use Rattle.domain.specs.declared.Op.TheVariants as Op
-use Rattle.domain.specs.declared.OsError.TheVariants as OsError
 use Rattle.model.specs.declared.{Gate.Gate, Request.Request}
-use Rattle.model.specs.declared.Gate.TheVariants as Gate
 use Rattle.fields.specs.Fields.{field, is_number, word_in, num}
 use Rattle.fields.specs.Codes.{codes}
 

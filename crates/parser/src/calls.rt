@@ -34,8 +34,8 @@ fn gated(text: &[u8]) -> Said
 
 // `ro HANDLE FLAG` and `force HANDLE FLAG`
 fn marked(text: &[u8]) -> Said
-    requires text_value { spaces text.now ≡ 2 }
-    requires text_value_2 { (word_in 0 (codes "a") text.now ≡ false) × (word_in 0 gate_word text.now ≡ false) × (word_in 0 poison_word text.now ≡ false) }
+    requires three_fields { spaces text.now ≡ 2 }
+    requires other_words { (word_in 0 (codes "a") text.now ≡ false) × (word_in 0 gate_word text.now ≡ false) × (word_in 0 poison_word text.now ≡ false) }
     ensures { result ≡ says_of (forms text.now) }
 {
     let numbers = fields::words::are_numbers(text, 2);

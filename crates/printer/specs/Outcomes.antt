@@ -4,7 +4,6 @@
 use Rattle.std.specs.Prelude.{Bool, List, [], ◌∷◌, ◌++◌, ℕ}
 use Rattle.layout.specs.Pick.{pick}
 use Rattle.completion.specs.declared.{Range.Range, Outcome.Outcome}
-use Rattle.completion.specs.declared.Outcome.TheVariants as Outcome
 use Rattle.printer.specs.Spaced.{spaced}
 use Rattle.printer.specs.Parts.{
   fields_of,

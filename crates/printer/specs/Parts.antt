@@ -2,8 +2,6 @@
 use Rattle.std.specs.Prelude.{Bool, List, [], ◌∷◌, ◌++◌, ℕ}
 use Rattle.layout.specs.Pick.{pick}
 use Rattle.domain.specs.declared.{Op.Op, OsError.OsError, FirstCause.FirstCause}
-use Rattle.domain.specs.declared.Op.TheVariants as Op
-use Rattle.domain.specs.declared.OsError.TheVariants as OsError
 use Rattle.completion.specs.declared.{Range.Range, WriteTicket.WriteTicket}
 use Rattle.fields.specs.Codes.{codes}
 use Rattle.printer.specs.Spaced.{spaced}

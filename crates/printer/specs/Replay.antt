@@ -1,7 +1,6 @@
 -- What replay prints of a reply: TRACE.md's section "Replies", line by line.
 use Rattle.std.specs.Prelude.{List, [], ◌∷◌, ◌++◌, ℕ}
 use Rattle.completion.specs.declared.Reply.{Reply}
-use Rattle.completion.specs.declared.Reply.TheVariants as Reply
 use Rattle.printer.specs.Texts.{piece_word, numbered}
 use Rattle.printer.specs.Parts.{fields_of, bit, refused_text, flush_text, done_word, none_word, ok_word, writes_word, mark_word}
 use Rattle.printer.specs.Tickets.{buffer_text}

@@ -3,7 +3,6 @@
 -- be is printed as the section "Replies" has it, without the buffer, so that no reply is silent.
 use Rattle.std.specs.Prelude.{List, [], ◌∷◌, ◌++◌, ℕ}
 use Rattle.completion.specs.declared.Reply.{Reply}
-use Rattle.completion.specs.declared.Reply.TheVariants as Reply
 use Rattle.completion.specs.Numbers.{number}
 use Rattle.printer.specs.Texts.{no_word, numbered, piece_text}
 use Rattle.printer.specs.Parts.{bit, refused_text, flush_text, done_word, none_word, ok_word, writes_word, mark_word}

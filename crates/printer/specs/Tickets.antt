@@ -1,7 +1,6 @@
 -- What replay prints of a ticket, a receipt and a buffer: TRACE.md's section "Replies".
 use Rattle.std.specs.Prelude.{List, [], ◌∷◌, ℕ}
 use Rattle.completion.specs.declared.{WriteTicket.WriteTicket, DurableReceipt.DurableReceipt, Buffer.Buffer}
-use Rattle.completion.specs.declared.Buffer.TheVariants as Buffer
 use Rattle.fields.specs.Codes.{codes}
 use Rattle.printer.specs.Parts.{fields_of, bit, receipt_word}
 
