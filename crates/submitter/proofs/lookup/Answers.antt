@@ -1,8 +1,12 @@
-use Rattle.std.proofs.Common.{rules, ◌≡◌, ℕ, ◌+◌, ◌-◌, ◌*◌, ◌<◌, ◌≤◌, length, ◌/◌, ◌%◌, Bool, true, false, nat_eq, nat_lt, List, [], ◌∷◌, ◌++◌, slice_index_or, slice_set, bit_and, bit_or, Fits, w8, w32, w64, Bor, MutBor}
-use Rattle.optable.specs.Called.{lent_of, CallsTo, LooksTo}
-use Rattle.opening.specs.Opened.{OpensTo}
+-- `lookup` meets its contract: what its callees find is what a lookup finds (optable's Looking).
+use Rattle.std.proofs.Common.{refl, ap, length}
+use Rattle.memory.specs.declared.lengths.Fit.{Fit}
+use Rattle.optable.proofs.Looking.{looks_as}
 use Rattle.submitter.proofs.lookup.Goals as goal
 
--- src/lib.rt:75:1
 pub returns : goal.returns
-returns c = ?
+returns c =
+    let a = c.args in
+    let f = c.fitted-f in
+    looks_as a.x a.counts a.rows.now a.store.now a.free.now a.ready.now a.owners.now a.pool.now (length a.rows.now) refl f.result.fits f.result.depth c.look-l.result c.answer.result
+    (ap (λ (x : Fit). x.fits) f.ensures) (ap (λ (x : Fit). x.depth) f.ensures) c.look-l.ensures c.answer.ensures
