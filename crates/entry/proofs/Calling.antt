@@ -7,13 +7,10 @@ use mathlib.Core.List.{List, [], ◌∷◌}
 use Prim.Native.Nat.{ℕ, ◌+◌, ◌*◌, ◌/◌, ◌≤◌, ◌<◌}
 use native.Mathlib.Omega.{arith}
 use lib.ListN.{length, get_or, set}
-use types.Run.{OneOf}
-use denote.Enum.Declared.{tag_of}
 use Rattle.layout.proofs.Tests.{not_both}
 use Rattle.completion.specs.declared.Refusal.{Refusal}
 use Rattle.completion.specs.declared.Reply.{Reply}
 use Rattle.completion.specs.declared.Reply.TheVariants.{Piece, No as turnedAway, Rejected, Done, Flush, Took, None, Ok, Writes, Mark}
-use Rattle.completion.specs.contracts.Reply as Declared
 use Rattle.model.specs.declared.Call.{Call}
 use Rattle.model.specs.declared.Call.TheVariants.{Take}
 use Rattle.model.specs.declared.Counts.{Counts}
@@ -43,26 +40,18 @@ refusal_of_lem (Writes b) e k = absurd (not_both e refl)
 refusal_of_lem (Mark n) e k = absurd (not_both e refl)
 
 -- every other case is not turned away
-pub not_away : (r : Reply) → OneOf (0 ∷ 2 ∷ 3 ∷ 4 ∷ 5 ∷ 6 ∷ 7 ∷ 8 ∷ 9 ∷ []) (tag_of Declared.the_type r) → false ≡ is_away r
+pub not_away : (r : Reply) → ((f : Refusal) → r ≡ turnedAway f → ⊥) → false ≡ is_away r
 unfolding is_away
-not_away (Piece q o n b) one = refl
-not_away (turnedAway f) (inl e) = absurd (omega (arith, e))
-not_away (turnedAway f) (inr (inl e)) = absurd (omega (arith, e))
-not_away (turnedAway f) (inr (inr (inl e))) = absurd (omega (arith, e))
-not_away (turnedAway f) (inr (inr (inr (inl e)))) = absurd (omega (arith, e))
-not_away (turnedAway f) (inr (inr (inr (inr (inl e))))) = absurd (omega (arith, e))
-not_away (turnedAway f) (inr (inr (inr (inr (inr (inl e)))))) = absurd (omega (arith, e))
-not_away (turnedAway f) (inr (inr (inr (inr (inr (inr (inl e))))))) = absurd (omega (arith, e))
-not_away (turnedAway f) (inr (inr (inr (inr (inr (inr (inr (inl e)))))))) = absurd (omega (arith, e))
-not_away (turnedAway f) (inr (inr (inr (inr (inr (inr (inr (inr e)))))))) = absurd (omega (arith, e))
-not_away (Rejected r op raw b) one = refl
-not_away (Done q) one = refl
-not_away (Flush q n) one = refl
-not_away (Took c) one = refl
-not_away None one = refl
-not_away Ok one = refl
-not_away (Writes b) one = refl
-not_away (Mark n) one = refl
+not_away (Piece q o n b) other = refl
+not_away (turnedAway f) other = absurd (other f refl)
+not_away (Rejected r op raw b) other = refl
+not_away (Done q) other = refl
+not_away (Flush q n) other = refl
+not_away (Took c) other = refl
+not_away None other = refl
+not_away Ok other = refl
+not_away (Writes b) other = refl
+not_away (Mark n) other = refl
 
 -- the counts are read back from their words
 pub counts_read : (c : Counts) → counts_in (count_words c) ≡ c

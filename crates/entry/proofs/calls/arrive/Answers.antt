@@ -12,7 +12,6 @@ returns-then-not-fits c = unlike c.fits.ensures (c.if-not-fits.true)
 
 pub returns : goal.returns
 returns c =
-    let left = (goal.at.returns c).After-slice_known-6-1 in
-    let a = left.args in
-    let at-is = c.place-at.ensures ∙ ap (λ (x : Call). place_of x c.Counts-of.result a.free.now) c.call_of.ensures in
-    armed left.fits2.ensures (left.if1.false) c.Counts-of.ensures.0 at-is c.row_at-row.ensures (not_arrived a.qtag a.what) c.arrive-t.ensures c.put_touched.ensures
+    let a = c.args in
+    let at-is = c.place-at.ensures ∙ ap (λ (x : Call). place_of x c.counts_of-c.result a.free.now) c.call_of.ensures in
+    armed c.fits.ensures c.if-not-fits.false c.counts_of-c.ensures.value at-is c.row_at-row.ensures (not_arrived a.qtag a.what) c.arrive-t.ensures c.put_touched.ensures

@@ -17,4 +17,4 @@ unfolding place_of
 returns c =
     let a = c.args in
     carried_without Take a.counts.now a.rows.now a.store.now a.free.now a.ready.now a.owners.now a.pool.now c.take-t.result _ _ _ _ _ c.fits.result c.fits.ensures (c.if-not-fits.false)
-    c.Counts-of.result c.Counts-of.ensures.0 0 refl c.row_at-row.result c.row_at-row.ensures (c.take-t.ensures.takes_to (length a.rows.now / 16) a.free.now a.pool.now) _ _ c.Counts-of.ensures.1 c.take-t.ensures.no_row c.put_counted.ensures
+    c.counts_of-c.result c.counts_of-c.ensures.value 0 refl c.row_at-row.result c.row_at-row.ensures (c.take-t.ensures.takes_to (length a.rows.now / 16) a.free.now a.pool.now) _ _ c.counts_of-c.ensures.three c.take-t.ensures.no_row c.put_counted.ensures

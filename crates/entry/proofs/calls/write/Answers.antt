@@ -12,4 +12,4 @@ returns-then-not-fits c = unlike c.fits.ensures (c.if-not-fits.true)
 
 pub returns : goal.returns
 returns c =
-    armed c.fits.ensures (c.if-not-fits.false) c.Counts-of.ensures.0 c.place-at.ensures c.row_at-row.ensures (λ e. let z : ◌≡◌ {A = ℕ} 0 1 = cc in omega arith) (c.write-t.ensures _ _) c.put_touched.ensures
+    armed c.fits.ensures (c.if-not-fits.false) c.counts_of-c.ensures.value c.place-at.ensures c.row_at-row.ensures (λ e. let z : ◌≡◌ {A = ℕ} 0 1 = cc in omega arith) (c.write-t.ensures _ _) c.put_touched.ensures

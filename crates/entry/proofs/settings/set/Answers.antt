@@ -10,4 +10,4 @@ returns-then-not-fits c = unlike c.fits.ensures (c.if-not-fits.true)
 pub returns : goal.returns
 returns c =
     let a = c.args in
-    marked c.fits.ensures (c.if-not-fits.false) c.Counts-of.ensures.0 (no_place a.what c.Counts-of.result a.free.now) c.row_at-row.ensures (not_set a.what) c.mark-t.ensures c.put_touched.ensures
+    marked c.fits.ensures (c.if-not-fits.false) c.counts_of-c.ensures.value (no_place a.what c.counts_of-c.result a.free.now) c.row_at-row.ensures (not_set a.what) c.mark-t.ensures c.put_touched.ensures

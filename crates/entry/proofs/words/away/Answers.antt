@@ -9,4 +9,4 @@ unfolding is_away
 returns-in-No c = search rules
 
 pub returns-in_default : goal.returns-in_default
-returns-in_default c = not_away c.args.reply c.in_default.in_default-own.keys2
+returns-in_default c = not_away c.args.reply c.in_default.not-No

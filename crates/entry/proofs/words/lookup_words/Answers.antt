@@ -15,9 +15,9 @@ use Rattle.entry.proofs.words.lookup_words.Goals as goal
 pub returns : goal.returns
 returns c =
     let a = c.args in
-    let counts = c.Counts-of in
+    let counts = c.counts_of-c in
     let fit = c.fitted-f in
-    subst (λ (d : Counts). LooksTo a.x d (lent_in a.rows.now a.store.now a.free.now a.ready.now a.owners.now a.pool.now) c.answer.result) counts.ensures.0
+    subst (λ (d : Counts). LooksTo a.x d (lent_in a.rows.now a.store.now a.free.now a.ready.now a.owners.now a.pool.now) c.answer.result) counts.ensures.value
     (looks_as a.x counts.result (rows_in a.rows.now) a.store.now a.free.now a.ready.now a.owners.now a.pool.now (length a.rows.now / 16) (count a.rows.now)
     fit.result.fits fit.result.depth c.look-l.result c.answer.result
     (ap (λ (f : Fit). f.fits) fit.ensures) (ap (λ (f : Fit). f.depth) fit.ensures) c.look-l.ensures c.answer.ensures)
