@@ -3,6 +3,6 @@
 // gate replays them without Rust.
 #![tactic(auto)]
 
-fn main() {
-    session::program::replay(true);
+fn main(rt: HostRuntime) {
+    session::program::replay(rt.stdin(), rt.stdout(), true);
 }

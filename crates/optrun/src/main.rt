@@ -5,9 +5,12 @@
 
 use opening::Opened;
 use runner::turn::Running;
+use std::io::{Stdin, Stdout};
 
 // Reads lines until the input ends, and answers each. A loop has to end: it counts its turns down, from a number that no run uses up.
 fn run(
+    stdin: Stdin,
+    stdout: Stdout,
     r: Running,
     store: &mut [u64],
     free: &mut [u64],
@@ -24,12 +27,14 @@ fn run(
         if from.ended {
             return;
         }
-        now = runner::turn::turn(now, &mut line, &mut chunk, store, free, ready, owners, pool);
+        now = runner::turn::turn(
+            stdin, stdout, now, &mut line, &mut chunk, store, free, ready, owners, pool,
+        );
         turns -= 1;
     }
 }
 
-fn main() {
+fn main(rt: HostRuntime) {
     let mut store = [0u64; 118];
     let mut free = [0u64; 2];
     let mut ready = [0u64; 33];
@@ -50,7 +55,7 @@ fn main() {
     let held = opened.rows;
     let table = opened.opened;
     let Opened::Table(counts) = table else {
-        io::write_all(1, b"no 13\n");
+        let _ = rt.stdout().write_all(b"no 13\n");
         return;
     };
     let r = Running {
@@ -58,5 +63,14 @@ fn main() {
         counts,
         from: input::begin(),
     };
-    run(r, &mut store, &mut free, &mut ready, &mut owners, &mut pool);
+    run(
+        rt.stdin(),
+        rt.stdout(),
+        r,
+        &mut store,
+        &mut free,
+        &mut ready,
+        &mut owners,
+        &mut pool,
+    );
 }

@@ -2,6 +2,6 @@
 // stands in the crate session.
 #![tactic(auto)]
 
-fn main() {
-    session::program::replay(false);
+fn main(rt: HostRuntime) {
+    session::program::replay(rt.stdin(), rt.stdout(), false);
 }

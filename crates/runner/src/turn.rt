@@ -10,6 +10,7 @@ use crate::Answered;
 use fields::reader::Reader;
 use input::Input;
 use model::{Counts, Row};
+use std::io::{Stdin, Stdout};
 
 // The table's rows and counts, and where the input stands.
 #[derive(Clone, Copy)]
@@ -63,12 +64,13 @@ fn line(
 }
 
 // Prints the front of a buffer that holds any line.
-fn print_line(out: &[u8; 128], n: usize) {
-    input::print(out, n)
+fn print_line(stdout: Stdout, out: &[u8; 128], n: usize) {
+    input::print(stdout, out, n)
 }
 
 // A line is answered, and the answer printed.
 fn answer(
+    stdout: Stdout,
     r: Running,
     text: &[u8; 4096],
     store: &mut [u64],
@@ -99,7 +101,7 @@ fn answer(
         pool,
         &mut out,
     );
-    print_line(&out, a.printed);
+    print_line(stdout, &out, a.printed);
     let held = a.rows;
     let counted = a.counts;
     Running {
@@ -120,6 +122,8 @@ fn moved(r: Running, from: Input) -> Running
 
 // Goes on in the input, and answers the line if it is complete.
 pub fn turn(
+    stdin: Stdin,
+    stdout: Stdout,
     r: Running,
     text: &mut [u8; 4096],
     chunk: &mut [u8; 4096],
@@ -134,10 +138,10 @@ pub fn turn(
         (standing result store.new free.new ready.new owners.new pool.new) }
 {
     let was = r.from;
-    let from = input::next(was, text, chunk);
+    let from = input::next(stdin, was, text, chunk);
     let now = moved(r, from);
     if from.whole {
-        return answer(now, text, store, free, ready, owners, pool);
+        return answer(stdout, now, text, store, free, ready, owners, pool);
     }
     now
 }

@@ -4,6 +4,7 @@ use crate::Stage;
 use crate::turn::Running;
 use fields::reader::Reader;
 use input::Input;
+use std::io::{Stdin, Stdout};
 
 // Whether a line is `# list`.
 fn is_list(r: Reader, line: &[u8; 4096]) -> bool {
@@ -36,6 +37,8 @@ fn first(i: Input) -> Input {
 
 // Goes on in the input; a complete line starts a trace, or is answered.
 fn list_turn(
+    stdin: Stdin,
+    stdout: Stdout,
     r: Running,
     line: &mut [u8; 4096],
     chunk: &mut [u8; 4096],
@@ -47,7 +50,7 @@ fn list_turn(
     pool: &mut [u8; 1048576],
 ) -> Running {
     let was = r.from;
-    let from = input::next(was, line, chunk);
+    let from = input::next(stdin, was, line, chunk);
     let reader = from.reader;
     if !from.whole {
         return crate::turn::moved(r, from);
@@ -57,12 +60,14 @@ fn list_turn(
         return crate::turn::begun(first(from));
     }
     let now = crate::turn::moved(r, from);
-    crate::turn::answer(now, line, plan, store, free, ready, owners, pool)
+    crate::turn::answer(stdout, now, line, plan, store, free, ready, owners, pool)
 }
 
 // A turn of either program.
 fn turn(
     many: bool,
+    stdin: Stdin,
+    stdout: Stdout,
     r: Running,
     line: &mut [u8; 4096],
     chunk: &mut [u8; 4096],
@@ -74,9 +79,13 @@ fn turn(
     pool: &mut [u8; 1048576],
 ) -> Running {
     if many {
-        return list_turn(r, line, chunk, plan, store, free, ready, owners, pool);
+        return list_turn(
+            stdin, stdout, r, line, chunk, plan, store, free, ready, owners, pool,
+        );
     }
-    crate::turn::turn(r, line, chunk, plan, store, free, ready, owners, pool)
+    crate::turn::turn(
+        stdin, stdout, r, line, chunk, plan, store, free, ready, owners, pool,
+    )
 }
 
 // Whether either program ends: after `limit` another trace may follow.
@@ -90,6 +99,8 @@ fn ends(many: bool, stage: Stage, from: Input) -> bool {
 // Reads lines until the program ends, and answers each. A loop has to end: it counts its turns down, from a number that no run uses up.
 fn run(
     many: bool,
+    stdin: Stdin,
+    stdout: Stdout,
     r: Running,
     plan: &mut [u64; 560],
     store: &mut [u64],
@@ -109,14 +120,14 @@ fn run(
             return;
         }
         now = turn(
-            many, now, &mut line, &mut chunk, plan, store, free, ready, owners, pool,
+            many, stdin, stdout, now, &mut line, &mut chunk, plan, store, free, ready, owners, pool,
         );
         turns -= 1;
     }
 }
 
 // Answers a trace, or many, in memory of the program's own.
-pub fn replay(many: bool) {
+pub fn replay(stdin: Stdin, stdout: Stdout, many: bool) {
     let mut plan = [0u64; 560];
     let mut store = [0u64; 608];
     let mut free = [0u64; 64];
@@ -126,6 +137,8 @@ pub fn replay(many: bool) {
     let r = crate::turn::begun(input::begin());
     run(
         many,
+        stdin,
+        stdout,
         r,
         &mut plan,
         &mut store,

@@ -8,6 +8,7 @@ ghost use Rattle.session.specs.Replayed.{standing, Answers, Turned, over_at};
 use crate::Stage;
 use input::Input;
 use model::{Counts, Row};
+use std::io::{Stdin, Stdout};
 
 // Where the trace stands, what is held by value, and where the input stands.
 #[derive(Clone, Copy)]
@@ -20,12 +21,13 @@ pub struct Running {
 }
 
 // Prints the front of a buffer that holds any line.
-fn print_line(out: &[u8; 4096], n: usize) {
-    input::print(out, n)
+fn print_line(stdout: Stdout, out: &[u8; 4096], n: usize) {
+    input::print(stdout, out, n)
 }
 
 // A line is answered, and the answer printed.
 pub fn answer(
+    stdout: Stdout,
     r: Running,
     line: &[u8; 4096],
     plan: &mut [u64; 560],
@@ -61,7 +63,7 @@ pub fn answer(
         pool,
         &mut out,
     );
-    print_line(&out, a.printed);
+    print_line(stdout, &out, a.printed);
     let next = a.stage;
     let held = a.rows;
     let counted = a.counts;
@@ -107,6 +109,8 @@ pub fn begun(from: Input) -> Running
 
 // Goes on in the input, and answers the line if it is complete.
 pub fn turn(
+    stdin: Stdin,
+    stdout: Stdout,
     r: Running,
     line: &mut [u8; 4096],
     chunk: &mut [u8; 4096],
@@ -122,10 +126,10 @@ pub fn turn(
         (standing result plan.new store.new free.new ready.new owners.new pool.new) }
 {
     let was = r.from;
-    let from = input::next(was, line, chunk);
+    let from = input::next(stdin, was, line, chunk);
     let now = moved(r, from);
     if from.whole {
-        return answer(now, line, plan, store, free, ready, owners, pool);
+        return answer(stdout, now, line, plan, store, free, ready, owners, pool);
     }
     now
 }
