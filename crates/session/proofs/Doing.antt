@@ -1,15 +1,14 @@
 -- What a line asks for: the definition computes.
 use mathlib.Core.Path.{◌≡◌, refl, sym, subst}
+use mathlib.Core.Bool.{Bool}
 use mathlib.Core.List.{List, [], ◌∷◌}
 use Prim.Native.Nat.{ℕ}
 use lib.ListN.{take}
-use types.Run.{OneOf, miss}
-use denote.Enum.Declared.{tag_of}
 use Rattle.model.specs.declared.Counts.{Counts}
 use Rattle.model.specs.declared.Row.{Row}
+use Rattle.platform.specs.declared.Answer as Answered
 use Rattle.model.specs.declared.Call.{Call}
 use Rattle.model.specs.declared.Call.TheVariants.{Write, ReadPage, Answer, Flushed, Take, SetGate, SetReadOnly, SetForced, ReportPoison}
-use Rattle.model.specs.contracts.Call as CallType
 use Rattle.optable.specs.Called.{lent_of}
 use Rattle.parser.specs.declared.requests.Asks.{Asks}
 use Rattle.parser.specs.declared.requests.Asks.TheVariants.{Nothing, Call as calls, Other}
@@ -17,14 +16,11 @@ use Rattle.printer.specs.Texts.{bad_text}
 use Rattle.session.specs.Asking.{Held, held_of, given_by, Ran, Asked}
 
 -- of the calls only an answer gives a flush count
-abbrev others : List ℕ
-others = 0 ∷ 1 ∷ 3 ∷ 4 ∷ 5 ∷ 6 ∷ 7 ∷ 8 ∷ []
-
-pub none_given : (c : Call) (n : ℕ) → OneOf others (tag_of CallType.the_type c) → n ≡ given_by c n
+pub none_given : (c : Call) (n : ℕ) → ((t : ℕ) (a : Answered.Answer) (back : Bool) (flushes : ℕ) → c ≡ Answer t a back flushes → ⊥) → n ≡ given_by c n
 unfolding given_by
 none_given (Write q) n w = refl
 none_given (ReadPage q) n w = refl
-none_given (Answer t a back flushes) n w = absurd (miss others 2 tt w)
+none_given (Answer t a back flushes) n w = absurd (w t a back flushes refl)
 none_given (Flushed t f) n w = refl
 none_given Take n w = refl
 none_given (SetGate h g) n w = refl

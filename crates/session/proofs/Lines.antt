@@ -3,8 +3,6 @@ use mathlib.Core.Path.{◌≡◌, refl, sym, ap, ◌∙◌, subst}
 use mathlib.Core.List.{List, [], ◌∷◌}
 use Prim.Native.Nat.{ℕ, ◌-◌}
 use lib.ListN.{length, take}
-use types.Run.{OneOf, miss}
-use denote.Enum.Declared.{tag_of}
 use Rattle.model.specs.declared.Counts.{Counts}
 use Rattle.model.specs.declared.Row.{Row}
 use Rattle.model.specs.declared.Lookup.{Lookup}
@@ -12,7 +10,6 @@ use Rattle.model.specs.declared.Lookup.TheVariants.{WritesLive}
 use Rattle.optable.specs.Called.{lent_of}
 use Rattle.parser.specs.declared.forms.Said.{Said}
 use Rattle.parser.specs.declared.forms.Said.TheVariants.{Comment, Call as callSaid, Own, Count, Look, Len, Fill, Sum, Rows, Bad}
-use Rattle.parser.specs.contracts.forms.Said as SaidType
 use Rattle.parser.specs.declared.requests.Asks.{Asks}
 use Rattle.parser.specs.declared.requests.Named.{Named}
 use Rattle.parser.specs.Asks.{asks_of}
@@ -59,23 +56,23 @@ module _ (number flushes : ℕ) (counts : Counts) (rows : List Row) (store free 
     rows_said e l = moved flushes counts rows store free ready owners (Answers said number h) pool f' c' r' n' n out s (subst (λ (y : Said). Answers y number h h (take n out)) (sym e) (refl, l))
 
   -- the other lines ask for a call, for nothing, or are of another form
-  abbrev asking : List ℕ
-  asking = 0 ∷ 1 ∷ 2 ∷ 3 ∷ 9 ∷ []
+  abbrev Asking : Said → Type 0
+  Asking said = ((x : Lookup) → said ≡ Look x → ⊥) × (said ≡ Len → ⊥) × ((b p l x : ℕ) → said ≡ Fill b p l x → ⊥) × ((b p l : ℕ) → said ≡ Sum b p l → ⊥) × (said ≡ Rows → ⊥)
 
-  by_said : (said : Said) → OneOf asking (tag_of SaidType.the_type said) → (h' : Held) (text : List ℕ) → Asked (asks_of said (named_in store) flushes) number h h' text → Answers said number h h' text
+  by_said : (said : Said) → Asking said → (h' : Held) (text : List ℕ) → Asked (asks_of said (named_in store) flushes) number h h' text → Answers said number h h' text
   unfolding Answers Asked asks_of
   by_said Comment w h' text a = a
   by_said (callSaid c) w h' text a = a
   by_said (Own x b p l d t) w h' text a = a
   by_said (Count t n) w h' text a = a
-  by_said (Look x) w h' text a = absurd (miss asking 4 tt w)
-  by_said Len w h' text a = absurd (miss asking 5 tt w)
-  by_said (Fill b p l x) w h' text a = absurd (miss asking 6 tt w)
-  by_said (Sum b p l) w h' text a = absurd (miss asking 7 tt w)
-  by_said Rows w h' text a = absurd (miss asking 8 tt w)
+  by_said (Look x) w h' text a = absurd (w.0 x refl)
+  by_said Len w h' text a = absurd (w.1 refl)
+  by_said (Fill b p l x) w h' text a = absurd (w.2 b p l x refl)
+  by_said (Sum b p l) w h' text a = absurd (w.3 b p l refl)
+  by_said Rows w h' text a = absurd (w.4 refl)
   by_said Bad w h' text a = a
 
-  pub asks_said : (said : Said) → OneOf asking (tag_of SaidType.the_type said) → (names : Named) (asks : Asks) → names ≡ named_in store → asks ≡ asks_of said names flushes → (h' : Held) (text : List ℕ)
+  pub asks_said : (said : Said) → Asking said → (names : Named) (asks : Asks) → names ≡ named_in store → asks ≡ asks_of said names flushes → (h' : Held) (text : List ℕ)
       → Asked asks number h h' text → Answers said number h h' text
   asks_said said w names asks p q h' text a =
       by_said said w h' text (subst (λ (x : Asks). Asked x number h h' text) (q ∙ ap (λ (x : Named). asks_of said x flushes) p) a)

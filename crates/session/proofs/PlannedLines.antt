@@ -6,8 +6,6 @@ use Prim.Native.Nat.{ℕ, ◌≤◌}
 use native.Mathlib.Omega.{arith}
 use lib.ListN.{length, get_or}
 use lib.Dec.{leb, eqb}
-use types.Run.{OneOf, miss}
-use denote.Enum.Declared.{tag_of}
 use borrow.Author.Tests.{leb-true}
 use Rattle.layout.specs.Pick.{pick}
 use Rattle.model.specs.declared.Counts.{Counts}
@@ -17,7 +15,6 @@ use Rattle.fields.specs.Trace.{line_read}
 use Rattle.parser.specs.declared.preamble.OpenLine.{OpenLine}
 use Rattle.parser.specs.declared.preamble.OpenLine.TheVariants.{Comment, Open, Region, Start, Bad}
 use Rattle.parser.specs.Openings.{open_line_in, open_line_read, regions_after, plan_after}
-use Rattle.parser.specs.contracts.preamble.OpenLine as OpenLineType
 use Rattle.printer.specs.Texts.{bad_text}
 use Rattle.session.specs.Start.{started_as}
 use Rattle.session.specs.declared.Stage.TheVariants.{Planned}
@@ -34,27 +31,17 @@ pub region_short : (bytes : List ℕ) → Region ≡ open_line_read bytes → le
 unfolding open_line_read line_read
 region_short bytes e = leb-true (length bytes) 4096 (short_if (leb (length bytes) 4096) (eqb (get_or bytes 0 0) 35) (open_line_in bytes) e)
 
--- a line that is no `start`
-abbrev others : List ℕ
-others = 0 ∷ 1 ∷ 2 ∷ 4 ∷ []
-
-pub no_start : (line : OpenLine) → OneOf others (tag_of OpenLineType.the_type line) → line ≡ Start → ⊥
-no_start line w e = miss others 3 tt (subst (λ (x : OpenLine). OneOf others (tag_of OpenLineType.the_type x)) e w)
-
-abbrev wrong : List ℕ
-wrong = 1 ∷ 3 ∷ 4 ∷ []
-
 module _ (o : Opening) (bytes : List ℕ) (n : ℕ) (plan : List ℕ) (flushes : ℕ) (counts : Counts) (lent : Lent) where
   abbrev s : Stood
   s = stood_at (Planned o) plan flushes counts lent
 
-  pub bad_planned : (x : OpenLine) → OneOf wrong (tag_of OpenLineType.the_type x) → (x ≡ Start → ⊥) → (text : List ℕ) → text ≡ bad_text n → Tells (planned_line x o bytes n s) s text
+  pub bad_planned : (x : OpenLine) → (x ≡ Comment → ⊥) → (x ≡ Region → ⊥) → (x ≡ Start → ⊥) → (text : List ℕ) → text ≡ bad_text n → Tells (planned_line x o bytes n s) s text
   unfolding planned_line
-  bad_planned Comment w h text p = absurd (miss wrong 0 tt w)
-  bad_planned (Open x) w h text p = (refl, p)
-  bad_planned Region w h text p = absurd (miss wrong 2 tt w)
-  bad_planned Start w h text p = absurd (h refl)
-  bad_planned Bad w h text p = (refl, p)
+  bad_planned Comment w v h text p = absurd (w refl)
+  bad_planned (Open x) w v h text p = (refl, p)
+  bad_planned Region w v h text p = absurd (v refl)
+  bad_planned Start w v h text p = absurd (h refl)
+  bad_planned Bad w v h text p = (refl, p)
 
   module _ (line : OpenLine) where
     pub comment_planned : line ≡ Comment → Tells (planned_line line o bytes n s) s []

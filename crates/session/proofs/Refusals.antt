@@ -2,12 +2,9 @@
 use mathlib.Core.Path.{◌≡◌, refl, sym, ap, ◌∙◌}
 use mathlib.Core.List.{List, [], ◌∷◌}
 use Prim.Native.Nat.{ℕ}
-use types.Run.{OneOf, miss}
-use denote.Enum.Declared.{tag_of}
 use Rattle.parser.specs.declared.forms.Said.{Said}
 use Rattle.parser.specs.declared.forms.Said.TheVariants.{Comment, Call, Own, Count, Look, Len, Fill, Sum, Rows, Bad}
 use Rattle.parser.specs.Said.{said_read}
-use Rattle.parser.specs.contracts.forms.Said as SaidType
 use Rattle.printer.specs.Texts.{bad_text}
 use Rattle.session.specs.Unopened.{no_text13}
 use Rattle.session.specs.Opened.{refused_line}
@@ -24,21 +21,18 @@ module _ (said : Said) (bytes : List ℕ) (read : said ≡ said_read bytes) (n :
   unfolding refused_line
   bad_refused e text p = p ∙ ap (λ (x : Said). refused_line x n) (sym e ∙ read)
 
-abbrev calls : List ℕ
-calls = 1 ∷ 2 ∷ 3 ∷ 4 ∷ 5 ∷ 6 ∷ 7 ∷ 8 ∷ []
-
-call_refused : (said : Said) → OneOf calls (tag_of SaidType.the_type said) → (n : ℕ) → no_text13 ≡ refused_line said n
+call_refused : (said : Said) → (said ≡ Comment → ⊥) → (said ≡ Bad → ⊥) → (n : ℕ) → no_text13 ≡ refused_line said n
 unfolding refused_line
-call_refused Comment w n = absurd (miss calls 0 tt w)
-call_refused (Call c) w n = refl
-call_refused (Own x b p l d t) w n = refl
-call_refused (Count t k) w n = refl
-call_refused (Look x) w n = refl
-call_refused Len w n = refl
-call_refused (Fill b a l x) w n = refl
-call_refused (Sum b a l) w n = refl
-call_refused Rows w n = refl
-call_refused Bad w n = absurd (miss calls 9 tt w)
+call_refused Comment w v n = absurd (w refl)
+call_refused (Call c) w v n = refl
+call_refused (Own x b p l d t) w v n = refl
+call_refused (Count t k) w v n = refl
+call_refused (Look x) w v n = refl
+call_refused Len w v n = refl
+call_refused (Fill b a l x) w v n = refl
+call_refused (Sum b a l) w v n = refl
+call_refused Rows w v n = refl
+call_refused Bad w v n = absurd (v refl)
 
-pub said_refused : (said : Said) (bytes : List ℕ) → said ≡ said_read bytes → (n : ℕ) → OneOf calls (tag_of SaidType.the_type said) → (text : List ℕ) → text ≡ no_text13 → text ≡ refused_line (said_read bytes) n
-said_refused said bytes read n w text p = p ∙ call_refused said w n ∙ ap (λ (x : Said). refused_line x n) read
+pub said_refused : (said : Said) (bytes : List ℕ) → said ≡ said_read bytes → (n : ℕ) → (said ≡ Comment → ⊥) → (said ≡ Bad → ⊥) → (text : List ℕ) → text ≡ no_text13 → text ≡ refused_line (said_read bytes) n
+said_refused said bytes read n w v text p = p ∙ call_refused said w v n ∙ ap (λ (x : Said). refused_line x n) read

@@ -6,8 +6,6 @@ use Prim.Native.Nat.{ℕ, ◌*◌, ◌≤◌}
 use native.Mathlib.Omega.{arith}
 use lib.ListN.{length, take}
 use lib.Seq.{length-take-le}
-use types.Run.{OneOf, miss}
-use denote.Enum.Declared.{tag_of}
 use Rattle.layout.specs.Pick.{pick}
 use Rattle.completion.specs.declared.Reply.TheVariants.{Ok}
 use Rattle.model.specs.declared.Counts.{Counts}
@@ -20,7 +18,6 @@ use Rattle.optable.specs.Called.{lent_of}
 use Rattle.printer.specs.Replay.{replay_text}
 use Rattle.session.specs.declared.start.Started.{Started}
 use Rattle.session.specs.declared.start.Started.TheVariants.{Table as opened, Refused as broken, TooLarge}
-use Rattle.session.specs.contracts.start.Started as StartedType
 use Rattle.session.specs.Start.{keeps, lent_for, opens_in, started_as, StartsTo}
 use Rattle.session.specs.declared.Stage.{Stage}
 use Rattle.session.specs.declared.Stage.TheVariants.{Planned, Table, Refused, Over}
@@ -49,12 +46,9 @@ module _ (started : Started) (o : Opening) (s : Stood) where
   unfolding start_line
   opened_counts_lem e = subst (λ (x : Started). fresh ≡ (start_line x o s).stood.counts) (sym e) refl
 
-abbrev others : List ℕ
-others = 1 ∷ 2 ∷ []
-
-pub other_counts : (started : Started) → OneOf others (tag_of StartedType.the_type started) → (o : Opening) (s : Stood) (counts : Counts) → s.counts ≡ counts → counts ≡ (start_line started o s).stood.counts
+pub other_counts : (started : Started) → (started ≡ opened → ⊥) → (o : Opening) (s : Stood) (counts : Counts) → s.counts ≡ counts → counts ≡ (start_line started o s).stood.counts
 unfolding start_line
-other_counts opened w o s counts e = absurd (miss others 0 tt w)
+other_counts opened w o s counts e = absurd (w refl)
 other_counts broken w o s counts e = sym e
 other_counts TooLarge w o s counts e = sym e
 

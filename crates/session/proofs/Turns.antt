@@ -3,12 +3,9 @@ use mathlib.Core.Path.{◌≡◌, refl, sym, ap}
 use mathlib.Core.Bool.{Bool, true}
 use mathlib.Core.List.{List, [], ◌∷◌}
 use Prim.Native.Nat.{ℕ}
-use types.Run.{OneOf, miss}
-use denote.Enum.Declared.{tag_of}
 use Rattle.optable.specs.Called.{lent_of}
 use Rattle.session.specs.declared.Stage.{Stage}
 use Rattle.session.specs.declared.Stage.TheVariants.{Before, Planned, Table, Refused, Over}
-use Rattle.session.specs.contracts.Stage as StageType
 use Rattle.session.specs.Unopened.{stood_at}
 use Rattle.session.specs.declared.turn.Running.{Running}
 use Rattle.session.specs.Replayed.{standing, over_at}
@@ -18,16 +15,13 @@ pub over_ends : (stage : Stage) (ended : Bool) → stage ≡ Over → true ≡ o
 unfolding over_at
 over_ends stage ended e = sym (ap (λ (x : Stage). over_at x ended) e)
 
-abbrev others : List ℕ
-others = 0 ∷ 1 ∷ 2 ∷ 3 ∷ []
-
-pub others_go_on : (stage : Stage) (ended : Bool) → OneOf others (tag_of StageType.the_type stage) → ended ≡ over_at stage ended
+pub others_go_on : (stage : Stage) (ended : Bool) → (stage ≡ Over → ⊥) → ended ≡ over_at stage ended
 unfolding over_at
 others_go_on Before ended w = refl
 others_go_on (Planned o) ended w = refl
 others_go_on (Table k) ended w = refl
 others_go_on Refused ended w = refl
-others_go_on Over ended w = absurd (miss others 4 tt w)
+others_go_on Over ended w = absurd (w refl)
 
 -- the same, further in the input, stands where it stood
 pub same : (r now : Running) (plan store free ready owners pool : List ℕ) → (now.stage ≡ r.stage) × ((now.rows ≡ r.rows) × ((now.counts ≡ r.counts) × (now.flushes ≡ r.flushes)))

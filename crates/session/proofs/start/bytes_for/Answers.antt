@@ -6,35 +6,31 @@ use native.Mathlib.Omega.{arith}
 use lib.ListN.{length, take}
 use lib.Seq.{take_all}
 use borrow.Author.Rules.{rules}
-use Rattle.session.proofs.start.bytes_for.Statement.{statement}
-use Rattle.session.proofs.start.bytes_for.Tie as tie
+use Rattle.session.proofs.start.bytes_for.Goals as goal
 
-returns : tie.Need-returns
-returns c =
-    let a = c.before.args in
+pub returns-then-capacity-eq0 : goal.returns-then-capacity-eq0
+returns-then-capacity-eq0 c =
+    let a = c.args in
     let none : a.o.capacity ≡ 0 = omega arith in
     (omega arith, ap (λ (n : ℕ). take n a.pool.now) (sym (ap (λ (n : ℕ). a.o.buffers * n) none ∙ mul-zero a.o.buffers)))
 
-returns-2 : tie.Need-returns-2
-returns-2 c =
-    let a = c.before.before.args in
+pub returns-then-n-capacity : goal.returns-then-n-capacity
+returns-then-n-capacity c =
+    let a = c.args in
     let some : 0 < a.o.capacity = omega arith in
-    let fewer = (div-lt_iff_lt-mul some).0 c.if2.true in
+    let fewer = (div-lt_iff_lt-mul some).0 c.if-n-capacity.true in
     (omega arith, take_all (length a.pool.now) a.pool.now (omega arith) ∙ sym (take_all (a.o.buffers * a.o.capacity) a.pool.now (omega (arith, fewer))))
 
-mul-result : tie.Need-overflow-mul-result
-mul-result c =
-    let a = c.before.before.args in
+pub overflow_mul-result : goal.overflow_mul-result
+overflow_mul-result c =
+    let a = c.args in
     let some : 0 < a.o.capacity = omega arith in
-    let room = (le-div_iff_mul-le some).0 c.if2.false in
+    let room = (le-div_iff_mul-le some).0 c.if-n-capacity.false in
     omega (arith, room)
 
-returns-3 : tie.Need-returns-3
-returns-3 c =
-    let a = c.before.before.args in
+pub returns : goal.returns
+returns c =
+    let a = c.args in
     let some : 0 < a.o.capacity = omega arith in
-    let room = (le-div_iff_mul-le some).0 c.if2.false in
+    let room = (le-div_iff_mul-le some).0 c.if-n-capacity.false in
     (omega (arith, room), refl)
-
-pub bytes-for-spec : {M : Type 1} → statement M
-bytes-for-spec = tie.close (tie.spec returns (λ c. search rules) returns-2 mul-result returns-3)
