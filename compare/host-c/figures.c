@@ -1,6 +1,6 @@
 /* Document 01's opening and its first figures, by a host in C:
  *
- *     rt staticlib entry && cc compare/host-c/figures.c target/staticlib/libentry.a -o figures && ./figures
+ *     (cd crates/entry && rt lib) && cc compare/host-c/figures.c crates/entry/out/libentry.a -o figures && ./figures
  *
  * It prints nothing and ends with 0 where every reply is the papers'. */
 #include "table.h"

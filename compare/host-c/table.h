@@ -1,4 +1,4 @@
-/* The functions of target/staticlib/libentry.a (rt staticlib entry), for a host in C or C++ on x86-64. The archive needs memcpy, memmove and memset of the host
+/* The functions of crates/entry/out/libentry.a (cd crates/entry && rt lib), for a host in C or C++ on x86-64. The archive needs memcpy, memmove and memset of the host
  * or its C library, and nothing else. A slice of Rattle is a pointer and a length.
  *
  * The host lends: counts, 3 words; the row memory, which is rows, 16 words for each row of the depth, store, 48 + 70 x regions words, free_rows, a word for each

@@ -1,5 +1,5 @@
 -- Of a sound table: the piece under way that the code finds is the map's, and what is done with it a number of 64 bits.
-use Rattle.std.proofs.Common.{◌≡◌, ℕ, ◌+◌, ◌-◌, ◌^◌, ◌<◌, ◌≤◌, true, List, ap, ◌∙◌, subst, mod-eq_of_lt, arith}
+use Rattle.std.proofs.Common.{◌≡◌, ℕ, ◌+◌, ◌^◌, ◌<◌, ◌≤◌, true, List, ap, ◌∙◌, subst, mod-eq_of_lt, arith}
 use Rattle.regionmap.specs.declared.FoundPiece.{FoundPiece}
 use Rattle.regionmap.specs.Map.{Map}
 use Rattle.regionmap.specs.Found.{wrap64}

@@ -1,5 +1,5 @@
 -- What a row awaits, by the arm that the code takes.
-use Rattle.std.proofs.Common.{◌≡◌, ℕ, ◌-◌, Bool, ◌&&◌, List, [], ◌∷◌, sym, refl, subst}
+use Rattle.std.proofs.Common.{◌≡◌, ℕ, Bool, ◌&&◌, List, sym, refl, subst}
 use Rattle.regionmap.specs.declared.FoundPiece.{FoundPiece}
 use Rattle.regionmap.specs.Found.{wrap64}
 use Rattle.model.specs.declared.Kind.{Kind}

@@ -1,5 +1,5 @@
 -- Only an operation that awaits a piece is rejected.
-use Rattle.std.proofs.Common.{◌≡◌, ℕ, List, [], ◌∷◌, refl}
+use Rattle.std.proofs.Common.{◌≡◌, refl}
 use Rattle.domain.specs.declared.OsError.{OsError}
 use Rattle.completion.specs.declared.Buffer.{Buffer}
 use Rattle.completion.specs.declared.Refusal.TheVariants.{NotAwaited}

@@ -1,5 +1,5 @@
 -- Of an operation that goes on: what is asked of the host next is what the step asks.
-use Rattle.std.proofs.Common.{◌≡◌, ℕ, ◌-◌, ◌^◌, ◌<◌, true, List, ◌∙◌, subst, mod-eq_of_lt, arith}
+use Rattle.std.proofs.Common.{◌≡◌, ℕ, ◌^◌, ◌<◌, true, List, ◌∙◌, subst, mod-eq_of_lt, arith}
 use Rattle.regionmap.specs.Found.{wrap64}
 use Rattle.completion.specs.declared.Reply.{Reply}
 use Rattle.completion.specs.declared.Reply.TheVariants.{Piece as piece}

@@ -1,12 +1,10 @@
 -- What arrives under a queue tag, an answer or a flush result: which call it is, and what becomes of the operation.
 use Rattle.std.specs.Prelude.{ℕ, List}
 use Rattle.model.specs.declared.{Call.Call, Opening.Opening, Row.Row}
-use Rattle.model.specs.declared.Call.TheVariants as Call
 use Rattle.memory.specs.declared.liveregion.LiveRegion.{LiveRegion}
 use Rattle.settle.specs.declared.Finished.{Finished}
 use Rattle.arrival.specs.UnderWay.{FinishedIn, FlushedIn}
 use Rattle.arrival.specs.declared.Arrived.{Arrived}
-use Rattle.arrival.specs.declared.Arrived.TheVariants as Arrived
 
 unfoldable pub arrived_call : ℕ → Arrived → Call
 arrived_call t (Arrived.Answer answer back flushes) = Call.Answer t answer back flushes

@@ -6,12 +6,8 @@ use Rattle.regionmap.specs.Map.{Map}
 use Rattle.regionmap.specs.Found.{wrap64}
 use Rattle.iobuf.specs.Turn.{turned_in}
 use Rattle.domain.specs.declared.Poisoned.{Poisoned}
-use Rattle.domain.specs.declared.Poisoned.TheVariants as Poisoned
 use Rattle.completion.specs.declared.{Buffer.Buffer, Reply.Reply}
-use Rattle.completion.specs.declared.Buffer.TheVariants as Buffer
-use Rattle.completion.specs.declared.Reply.TheVariants as Reply
 use Rattle.model.specs.declared.{Counts.Counts, Opening.Opening, Kind.Kind, Split.Split, Awaits.Awaits, Row.Row}
-use Rattle.model.specs.declared.Awaits.TheVariants as Awaits
 use Rattle.model.specs.State.{freed}
 use Rattle.step.specs.Rules.{first_of}
 use Rattle.step.specs.Step.{raised, awaits_now, completion_of, row_of, rejection}
@@ -23,7 +19,6 @@ use Rattle.memory.specs.Piece.{PieceIn}
 use Rattle.ring.specs.Queue.{published}
 use Rattle.marks.specs.Marks.{poisoned_in}
 use Rattle.settle.specs.declared.{Turn.Turn, Finished.Finished}
-use Rattle.settle.specs.declared.Finished.TheVariants as Finished
 use Rattle.settle.specs.Finished.{plan_with}
 
 -- the pool with a buffer's bytes turned

@@ -1,7 +1,6 @@
 -- What a taking leaves.
 use Rattle.std.specs.Prelude.{ℕ, List, slice_set}
 use Rattle.completion.specs.declared.Buffer.{Buffer}
-use Rattle.completion.specs.declared.Buffer.TheVariants as Buffer
 use Rattle.model.specs.declared.{Counts.Counts, Row.Row}
 use Rattle.model.specs.declared.Call.TheVariants as Call
 use Rattle.optable.specs.declared.touched.Touched.{Touched}

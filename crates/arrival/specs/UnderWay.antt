@@ -7,7 +7,6 @@ use Rattle.domain.specs.declared.Poisoned.{Poisoned}
 use Rattle.platform.specs.declared.{Answer.Answer, Flushed.Flushed}
 use Rattle.completion.specs.declared.Refusal.TheVariants as Refusal
 use Rattle.model.specs.declared.{Opening.Opening, Kind.Kind, Split.Split, Awaits.Awaits, Row.Row}
-use Rattle.model.specs.declared.Awaits.TheVariants as Awaits
 use Rattle.model.specs.Opening.{Plan, HEAD}
 use Rattle.model.specs.Memory.{poison_in}
 use Rattle.step.specs.Rules.{Input.answered, Input.flushed, first_of, rules}
@@ -15,7 +14,6 @@ use Rattle.step.specs.Step.{row_of, names}
 use Rattle.memory.specs.declared.liveregion.LiveRegion.{LiveRegion}
 use Rattle.memory.specs.Piece.{PieceIn}
 use Rattle.settle.specs.declared.Finished.{Finished}
-use Rattle.settle.specs.declared.Finished.TheVariants as Finished
 use Rattle.settle.specs.Finished.{plan_with, PieceFits, Tells}
 
 pub record PieceUnderWay (store : List ℕ) (h : ℕ) (k : Kind) (s : Split) (n : ℕ) : Type 0 where

@@ -3,49 +3,44 @@
 use mathlib.Core.Path.{◌≡◌, refl, sym, ap, ◌∙◌, subst}
 use mathlib.Core.Logic.{◌≢◌, ◌⊎◌, inl, inr}
 use mathlib.Core.Bool.{Bool, true, false, ◌&&◌}
-use mathlib.Core.Option.{Option, none, some}
+use mathlib.Core.Option.{none, some}
 use mathlib.Core.List.{List, [], ◌∷◌, ◌++◌, append_assoc, append-nil}
-use Prim.Native.Nat.{ℕ, zero, suc, ◌+◌, ◌*◌, ◌/◌, ◌%◌, ◌≤◌, ◌<◌}
+use Prim.Native.Nat.{ℕ, zero, suc, ◌+◌, ◌/◌, ◌%◌, ◌<◌}
 use native.Mathlib.Omega.{arith}
 use lib.ListN.{length, get_or, take, drop}
 use lib.Seq.{drop-length}
 use lib.Dec.{eqb, leb}
 use borrow.Author.Tests.{leb-true, eqb-true, eq-eqb}
 use Rattle.layout.specs.Pick.{pick}
-use Rattle.layout.proofs.Tests.{true_or_false, and_left, and_right, not_both}
-use Rattle.completion.specs.declared.Refusal.TheVariants as Refusal
+use Rattle.layout.proofs.Tests.{true_or_false, and_left, not_both}
 use Rattle.completion.specs.declared.{Completion.Completion, Refusal.Refusal, Reply.Reply}
-use Rattle.completion.specs.declared.Reply.TheVariants as Reply
 use Rattle.model.specs.declared.{Opening.Opening, Counts.Counts, Lengths.Lengths, Row.Row, Call.Call, Lookup.Lookup}
 use Rattle.model.specs.State.{State, fresh, freed, live_rows}
-use Rattle.model.specs.Opening.{opens, HEAD}
+use Rattle.model.specs.Opening.{opens}
 use Rattle.model.specs.Memory.{Lent, lengths_of, lengths_in, same_lengths, state_in, lent_after}
 use Rattle.posix.specs.Posix.{Card}
 use Rattle.step.specs.Step.{queue_tag, row_at, bytes_at, is_live, eq_lengths}
 use Rattle.step.specs.Run.{Made, Made.calls, Made.looks, Event, leave, next, run, Start, opened_by, after, reply_to}
-use Rattle.step.specs.Lists.{times, brought, is_brought, Completed, with_bytes, gets, added, added_by, takings, HostMay, tag_at}
-use Rattle.step.specs.Alone.{Course.completed}
+use Rattle.step.specs.Lists.{times, with_bytes, gets, added, added_by, takings, tag_at}
 use Rattle.step.specs.Demand3.{alone_at, Supposed, Agreed, NoMore, Demand3}
 use Rattle.step.proofs.Memory.{lengths_are}
 use Rattle.step.proofs.Projection.{reached_after}
 use Rattle.step.proofs.ProjectionReached.{run_append}
 use Rattle.step.proofs.Demand3.{demand3}
-use Rattle.optable.specs.Called.{lent_of, CallsTo, LooksTo}
-use Rattle.optable.specs.Held.{lent_with, Holds, MakesTo, HoldsNext, Begins, start_at, event}
+use Rattle.optable.specs.Called.{lent_of}
+use Rattle.optable.specs.Held.{Holds, MakesTo, HoldsNext, Begins, start_at, event}
 use Rattle.optable.proofs.Held.{held_laws, holds_fits, words_say, equal_lengths}
 use Rattle.opening.specs.declared.Opened.{Opened}
-use Rattle.opening.specs.declared.Opened.TheVariants as Opened
-use Rattle.opening.specs.Opened.{OpensTo}
 use Rattle.opening.proofs.Admitted.{admitted, counts_fresh, left_is, unopened}
 use Rattle.abi.specs.RowWords.{rows_in}
-use Rattle.abi.specs.ReplyWords.{filled, values_words, reply_words, unknown_words}
+use Rattle.abi.specs.ReplyWords.{filled, reply_words, unknown_words}
 use Rattle.abi.proofs.Laws.{count}
 use Rattle.entry.specs.WordCalls.{counts_in, lent_in, OpensInWords}
-use Rattle.entry.specs.WholeRows.{Whole, Cut, OpensWhole, CallsWhole, LooksWhole, fits_in}
-use Rattle.entry.specs.Entry.{Parts, parts_of, CallsOut, AnswersOut, nameless_words, LooksOut, opened_reply, opened_counts, OpensOut}
-use Rattle.entry.specs.Holding.{lent_of_parts, table_in, HoldsIn, parts_with, Export, Export.makes, Export.nameless, Export.reopens, export_of, Returns, AskedReturns, word_lengths, lengths_lent, LendsWords}
+use Rattle.entry.specs.WholeRows.{Whole, OpensWhole, CallsWhole, LooksWhole, fits_in}
+use Rattle.entry.specs.Entry.{Parts, AnswersOut, nameless_words, opened_reply, opened_counts, OpensOut}
+use Rattle.entry.specs.Holding.{lent_of_parts, table_in, HoldsIn, parts_with, Export, Export.makes, Export.nameless, Export.reopens, export_of, Returns, AskedReturns, word_lengths, lengths_lent}
 use Rattle.entry.specs.Holding.{WordTurn, WordTurnFrom, WordTurnsFrom, parts_after, events_for, events_of, history_of, out_for, next_for, WordsAsSteps, WordsHeldFrom, HostHoldsWords}
-use Rattle.entry.specs.Holding.{brings_to, added_to, gets_in_words, added_in_words, OneEachInWords, NoMoreInWords, AgreedInWords, Demand3InWords}
+use Rattle.entry.specs.Holding.{brings_to, gets_in_words, added_in_words, OneEachInWords, NoMoreInWords, AgreedInWords, Demand3InWords}
 
 -- ---- lengths
 

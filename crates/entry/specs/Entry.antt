@@ -6,10 +6,8 @@ use Rattle.std.proofs.Math.Option.{Option, none, some}
 use Rattle.layout.specs.Pick.{pick}
 use Rattle.completion.specs.declared.Refusal.TheVariants as Refusal
 use Rattle.completion.specs.declared.Reply.{Reply}
-use Rattle.completion.specs.declared.Reply.TheVariants as Reply
 use Rattle.model.specs.declared.{Call.Call, Lookup.Lookup, Opening.Opening}
 use Rattle.opening.specs.declared.Opened.{Opened}
-use Rattle.opening.specs.declared.Opened.TheVariants as Opened
 use Rattle.entry.specs.WordCalls.{count_words}
 use Rattle.entry.specs.WholeRows.{OpensWhole, CallsWhole, LooksWhole, fits_in}
 use Rattle.abi.specs.ReplyWords.{reply_words, unknown_words}

@@ -1,8 +1,6 @@
 -- A setting of a region, or a report of poison, as the call that it is.
 use Rattle.model.specs.declared.Call.{Call}
-use Rattle.model.specs.declared.Call.TheVariants as Call
 use Rattle.entry.specs.declared.settings.Setting.{Setting}
-use Rattle.entry.specs.declared.settings.Setting.TheVariants as Setting
 
 abbrev pub setting_call : Setting → Call
 setting_call (Setting.Gate h gate) = Call.SetGate h gate

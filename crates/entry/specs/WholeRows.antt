@@ -3,11 +3,9 @@
 use Rattle.std.specs.Prelude.{◌≡◌, Bool, ◌&&◌, List, ℕ, ◌%◌, length, eqb}
 use Rattle.completion.specs.declared.Refusal.TheVariants as Refusal
 use Rattle.completion.specs.declared.Reply.{Reply}
-use Rattle.completion.specs.declared.Reply.TheVariants as Reply
 use Rattle.model.specs.declared.{Call.Call, Lookup.Lookup, Opening.Opening}
 use Rattle.model.specs.Memory.{lengths_of, same_lengths}
 use Rattle.opening.specs.declared.Opened.{Opened}
-use Rattle.opening.specs.declared.Opened.TheVariants as Opened
 use Rattle.entry.specs.WordCalls.{lent_in, OpensInWords, CallsInWords, LooksInWords}
 
 -- as many words as some rows have, or not

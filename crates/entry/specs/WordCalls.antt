@@ -3,15 +3,12 @@
 -- rows' words besides.
 use Rattle.std.specs.Prelude.{◌≡◌, true, false, ◌⊎◌, List, [], ◌∷◌, ℕ, ◌+◌, ◌*◌, ◌≤◌, ◌<◌, length, get_or, drop, set}
 use Rattle.completion.specs.declared.{Refusal.Refusal, Reply.Reply}
-use Rattle.completion.specs.declared.Reply.TheVariants as Reply
 use Rattle.model.specs.declared.{Call.Call, Counts.Counts, Lookup.Lookup, Opening.Opening}
-use Rattle.model.specs.declared.Call.TheVariants as Call
 use Rattle.model.specs.Memory.{Lent}
 use Rattle.optable.specs.Counted.{accepted_if, released_by}
 use Rattle.optable.specs.declared.touched.Touched.{Touched}
 use Rattle.optable.specs.Called.{lent_of, place_of, CallsTo, LooksTo}
 use Rattle.opening.specs.declared.Opened.{Opened}
-use Rattle.opening.specs.declared.Opened.TheVariants as Opened
 use Rattle.opening.specs.Opened.{OpensTo}
 use Rattle.step.specs.Lists.{is_away}
 use Rattle.abi.specs.RowWords.{rows_in}

@@ -21,7 +21,6 @@ use Rattle.completion.specs.declared.{WriteTicket.WriteTicket, Range.Range, Dura
 use Rattle.completion.specs.declared.Outcome.TheVariants as Outcome
 use Rattle.completion.specs.declared.Buffer.TheVariants as Buffer
 use Rattle.completion.specs.declared.Refusal.TheVariants as Refusal
-use Rattle.completion.specs.declared.Reply.TheVariants as Reply
 use Rattle.model.specs.declared.{Opening.Opening, Lengths.Lengths, Request.Request}
 use Rattle.model.specs.declared.Call.TheVariants as Call
 use Rattle.model.specs.declared.Lookup.TheVariants as Lookup

@@ -16,7 +16,6 @@ use Rattle.completion.specs.declared.{WriteTicket.WriteTicket, Completion.Comple
 use Rattle.completion.specs.declared.Outcome.TheVariants as Outcome
 use Rattle.completion.specs.declared.Buffer.TheVariants as Buffer
 use Rattle.model.specs.declared.{Request.Request, Call.Call}
-use Rattle.model.specs.declared.Call.TheVariants as Call
 use Rattle.model.specs.Opening.{opens}
 use Rattle.step.specs.Run.{Made.calls}
 use Rattle.step.specs.Lists.{gets, card_after}

@@ -1,10 +1,9 @@
 -- Of an open table: what the code finds of a row and of a buffer's owner is the state's.
 use mathlib.Core.Path.{◌≡◌, refl, sym, ap, ◌∙◌, subst}
 use mathlib.Core.Bool.{Bool, true, false, ◌&&◌}
-use mathlib.Core.List.{List, [], ◌∷◌}
-use Prim.Native.Nat.{ℕ, ◌-◌, ◌≤◌, ◌<◌, ◌^◌}
-use native.Mathlib.Omega.{arith}
-use lib.ListN.{length, get_or, take}
+use mathlib.Core.List.{List}
+use Prim.Native.Nat.{ℕ, ◌≤◌, ◌<◌, ◌^◌}
+use lib.ListN.{get_or}
 use lib.Dec.{leb, eqb}
 use borrow.Author.Tests.{eq-eqb, ne_eqb}
 use Rattle.model.specs.declared.Counts.{Counts}
@@ -19,7 +18,7 @@ use Rattle.model.specs.Memory.{Lent, settings_in, state_in}
 use Rattle.step.specs.Questions.{byte_at, region_at}
 use Rattle.step.specs.Rules.{left_of, piece_length, first_of, range_end}
 use Rattle.step.specs.Step.{row_at, plan_of}
-use Rattle.step.specs.Sound.{Sound, InTable, SplitFits}
+use Rattle.step.specs.Sound.{InTable, SplitFits}
 use Rattle.step.specs.Lists.{loose, plan_at}
 use Rattle.optable.specs.Called.{lent_of}
 use Rattle.memory.specs.Live.{live_of}
@@ -31,7 +30,7 @@ use Rattle.regionmap.specs.declared.Position.{Position}
 use Rattle.regionmap.specs.declared.FoundPiece.{FoundPiece}
 use Rattle.regionmap.specs.Found.{wrap64}
 use Rattle.memory.specs.Piece.{PieceIn}
-use Rattle.hostfill.specs.MayFill.{reads, loose_row, Open, CoversRead, Covers}
+use Rattle.hostfill.specs.MayFill.{reads, loose_row, Open, Covers}
 
 -- a row in another buffer, or one that awaits no read's piece
 pub other_buffer : (s : State) (b end : ℕ) (row : Row) → (row.buffer ≡ b → ⊥) → false ≡ loose_row s b end row

@@ -1,7 +1,7 @@
 -- Of an open table: where the host may write, by the tests that the code makes.
 use mathlib.Core.Path.{◌≡◌, refl, sym, ap, ◌∙◌}
 use mathlib.Core.Bool.{Bool, true, false, ◌&&◌, ◌||◌}
-use mathlib.Core.List.{List, [], ◌∷◌, map}
+use mathlib.Core.List.{List, [], ◌∷◌}
 use Prim.Native.Nat.{ℕ, zero, suc, ◌+◌, ◌*◌, ◌≤◌, ◌<◌}
 use native.Mathlib.Omega.{arith}
 use lib.ListN.{length, get_or, take, length-take, length-map, get_or-map}
@@ -12,10 +12,9 @@ use Rattle.layout.specs.Pick.{pick}
 use Rattle.layout.proofs.Tests.{and_left, and_right}
 use Rattle.model.specs.declared.Counts.{Counts}
 use Rattle.model.specs.declared.Row.{Row}
-use Rattle.model.specs.State.{Owner, Owner.host, Owner.table, Owner.lost, State}
+use Rattle.model.specs.State.{Owner.host, Owner.table, Owner.lost, State}
 use Rattle.model.specs.Memory.{settings_in, owner_in, state_in}
 use Rattle.step.specs.Questions.{is_host, held_at}
-use Rattle.step.specs.Sound.{Sound}
 use Rattle.optable.specs.Called.{lent_of}
 use Rattle.hostfill.specs.Writes.{in_pool}
 use Rattle.hostfill.specs.MayFill.{any_loose, may_fill, Open}

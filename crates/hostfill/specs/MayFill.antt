@@ -2,8 +2,6 @@
 -- "`fill` outside the pool, in a buffer that the host may not change, or outside a read's piece under way, is `bad`" (TRACE.md).
 use Rattle.std.specs.Prelude.{◌≡◌, Bool, true, false, ◌&&◌, ◌||◌, List, [], ◌∷◌, ℕ, ◌+◌, ◌<◌, get_or, leb, eqb}
 use Rattle.model.specs.declared.{Counts.Counts, Kind.Kind, Split.Split, Awaits.Awaits, Row.Row}
-use Rattle.model.specs.declared.Kind.TheVariants as Kind
-use Rattle.model.specs.declared.Awaits.TheVariants as Awaits
 use Rattle.model.specs.State.{State, freed}
 use Rattle.model.specs.Memory.{Lent, lengths_of, same_lengths, settings_in, state_in}
 use Rattle.step.specs.Questions.{held_at}

@@ -9,7 +9,6 @@ use Rattle.model.specs.Memory.{Lent, lengths_of, lent_after}
 use Rattle.model.specs.Opening.{opens}
 use Rattle.model.specs.State.{fresh}
 use Rattle.opening.specs.declared.Opened.{Opened}
-use Rattle.opening.specs.declared.Opened.TheVariants as Opened
 
 -- the reply of an opening that is refused
 abbrev pub refused : Opened

@@ -1,21 +1,20 @@
 -- What a host holds is a table that calls have left: the opening's words hold the opened table, the host's writes leave it but for their bytes, and a
 -- call's contract is the step of the table that is held.
-use Rattle.std.proofs.Common.{◌≡◌, ℕ, ◌+◌, ◌*◌, ◌<◌, ◌≤◌, Bool, true, false, ◌&&◌, eqb, leb, ◌≢◌, ◌⊎◌, List, [], ◌∷◌, ◌++◌, map, length, take, drop, replicate, sym, refl, ap, ◌∙◌, subst, inl, inr, append_assoc, append-nil, arith, length-append, length-drop, length-take, eq-eqb, eqb-true, le-leb, leb-true}
+use Rattle.std.proofs.Common.{◌≡◌, ℕ, ◌*◌, ◌<◌, ◌≤◌, true, false, ◌&&◌, eqb, leb, ◌≢◌, ◌⊎◌, List, [], ◌∷◌, ◌++◌, map, length, take, drop, replicate, sym, refl, ap, ◌∙◌, subst, inl, inr, append_assoc, append-nil, arith, length-append, length-drop, length-take, eq-eqb, eqb-true, leb-true}
 use lib.ListN.{length-replicate}
 use Rattle.layout.specs.Pick.{pick}
 use Rattle.layout.proofs.Tests.{true_or_false, and_left, and_right, and_both, not_both}
 use Rattle.iobuf.specs.Turn.{stretch}
 use Rattle.completion.specs.declared.Refusal.TheVariants as Refusal
 use Rattle.completion.specs.declared.Reply.{Reply}
-use Rattle.completion.specs.declared.Reply.TheVariants as Reply
-use Rattle.model.specs.declared.{Opening.Opening, Counts.Counts, Lengths.Lengths, Lookup.Lookup, Call.Call}
+use Rattle.model.specs.declared.{Opening.Opening, Counts.Counts, Lengths.Lengths}
 use Rattle.model.specs.State.{State, freed, up_from, fresh}
 use Rattle.model.specs.Opening.{opens, opened}
 use Rattle.model.specs.Memory.{Lent, lengths_of, lengths_in, same_lengths, state_in, store_head, over, rows_opened, store_opened, free_opened, ready_opened, owners_opened, opened_lent, lent_after}
 use Rattle.model.proofs.Laws.{opening_laws}
 use Rattle.model.proofs.Opened.{length_up}
 use Rattle.step.specs.Questions.{region_at, held_at}
-use Rattle.step.specs.Step.{step, look, row_at, bytes_at, is_live, eq_lengths}
+use Rattle.step.specs.Step.{row_at, bytes_at, eq_lengths}
 use Rattle.step.specs.Sound.{Sound}
 use Rattle.step.specs.Run.{Made, Made.calls, Made.looks, Event, Start, opened_by, plans_of, leave, done, next, run, after, reply_to}
 use Rattle.step.specs.Lists.{loose, plan_at, LooseIn, HostMay, Hosted}
@@ -23,10 +22,9 @@ use Rattle.step.specs.Demand3.{alones_after, Projected}
 use Rattle.step.proofs.Laws.{step_laws}
 use Rattle.step.proofs.Memory.{lengths_same, lengths_are}
 use Rattle.step.proofs.ProjectionHost.{sole}
-use Rattle.step.proofs.ProjectionReached.{Reached, reached_left, run_append}
+use Rattle.step.proofs.ProjectionReached.{reached_left, run_append}
 use Rattle.step.proofs.Projection.{reached_after}
-use Rattle.optable.specs.Called.{lent_of, CallsTo, LooksTo}
-use Rattle.optable.specs.Held.{lent_with, Holds, MakesTo, Lends, Turn, TurnFrom, TurnsFrom, counts_after, held_after, event, event_of, AsSteps, start_at, HoldsNext, HeldLaws}
+use Rattle.optable.specs.Held.{lent_with, Holds, MakesTo, Turn, TurnFrom, TurnsFrom, counts_after, held_after, event, event_of, AsSteps, start_at, HoldsNext, HeldLaws}
 
 -- ---- what the host may write
 

@@ -1,11 +1,7 @@
--- What proofs over lent rows and lent counts use, here and in the crates above: the walks by hand first, then the lookups.
-pub mod Element
+-- What proofs over lent rows and lent counts use, here and in the crates above: the rows, then the lookups, then what a host holds.
 pub mod Opened
-pub mod RowsFacts
-pub mod Tally
 pub mod Chosen
 pub mod Claims
-pub mod Found
 pub mod Turning
 pub mod Looking
 pub mod Held

@@ -1,10 +1,7 @@
 -- What a call leaves: its reply, the counts, and all that is lent. One equation with the step, of every sound table; and what holds of any words.
 use Rattle.std.specs.Prelude.{◌≡◌, ℕ, true, false, List, length, drop, slice_index, slice_index_or, slice_set}
 use Rattle.completion.specs.declared.{Refusal.Refusal, Reply.Reply}
-use Rattle.completion.specs.declared.Refusal.TheVariants as Refusal
-use Rattle.completion.specs.declared.Reply.TheVariants as Reply
 use Rattle.model.specs.declared.{Opening.Opening, Counts.Counts, Row.Row, Call.Call, Lookup.Lookup}
-use Rattle.model.specs.declared.Call.TheVariants as Call
 use Rattle.model.specs.State.{freed}
 use Rattle.model.specs.Opening.{store_words, ready_words}
 use Rattle.model.specs.Memory.{Lent, lengths_of, same_lengths, settings_in, state_in}

@@ -3,7 +3,6 @@ use Rattle.std.specs.Prelude.{ℕ, Bool, true, false, List, slice_set}
 use Rattle.layout.specs.Pick.{pick}
 use Rattle.model.specs.declared.Row.{Row}
 use Rattle.optable.specs.declared.Frees.{Frees}
-use Rattle.optable.specs.declared.Frees.TheVariants as Frees
 
 -- whether the call gives its row back: its first piece was refused, or it is completed. A completion that is taken has given its row back before.
 unfoldable pub frees_row : Frees → Bool

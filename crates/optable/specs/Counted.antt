@@ -5,7 +5,6 @@ use Rattle.layout.specs.Pick.{pick}
 use Rattle.regionmap.specs.Found.{wrap64}
 use Rattle.model.specs.declared.Counts.{Counts}
 use Rattle.optable.specs.declared.Frees.{Frees}
-use Rattle.optable.specs.declared.Frees.TheVariants as Frees
 
 unfoldable pub accepted_if : Bool → Counts → Counts
 accepted_if accepts c = pick accepts (record { live = wrap64 (c.live + 1); ready = c.ready; submissions = wrap64 (c.submissions + 1) }) c

@@ -1,13 +1,10 @@
 -- What a walk through the rows finds, and the replies to the lookups.
-use Rattle.std.specs.Prelude.{ℕ, ◌+◌, min, Bool, true, false, ◌||◌, List, [], ◌∷◌, ◌==◌}
+use Rattle.std.specs.Prelude.{ℕ, ◌+◌, min, Bool, true, false, ◌||◌, List, ◌==◌}
 use Rattle.layout.specs.Pick.{pick}
 use Rattle.regionmap.specs.Found.{wrap64}
 use Rattle.completion.specs.declared.Refusal.TheVariants as Refusal
 use Rattle.completion.specs.declared.Reply.{Reply}
-use Rattle.completion.specs.declared.Reply.TheVariants as Reply
 use Rattle.model.specs.declared.{Counts.Counts, Kind.Kind, Row.Row, Lookup.Lookup}
-use Rattle.model.specs.declared.Kind.TheVariants as Kind
-use Rattle.model.specs.declared.Lookup.TheVariants as Lookup
 use Rattle.step.specs.Step.{writes_in, is_live, any_writes, oldest}
 use Rattle.optable.specs.declared.lookup.Looked.{Looked}
 

@@ -15,7 +15,6 @@ use Rattle.model.specs.State.{freed}
 use Rattle.model.specs.Memory.{Lent, lengths_of, same_lengths, state_in}
 use Rattle.step.specs.Step.{called, step}
 use Rattle.step.specs.Sound.{Sound}
-use Rattle.step.proofs.Taken as stack
 use Rattle.step.proofs.Memory.{lengths_same}
 use Rattle.optable.specs.Counted.{accepted_if, released_by}
 use Rattle.optable.specs.declared.touched.Touched.{Touched}

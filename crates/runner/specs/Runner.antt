@@ -6,7 +6,6 @@ use Rattle.model.specs.declared.{Counts.Counts, Call.Call}
 use Rattle.model.specs.Memory.{Lent}
 use Rattle.optable.specs.Called.{CallsTo}
 use Rattle.parser.specs.declared.{requests.Named.Named, requests.Asks.Asks}
-use Rattle.parser.specs.declared.requests.Asks.TheVariants as Asks
 use Rattle.printer.specs.Texts.{bad_text}
 use Rattle.printer.specs.Short.{short_text}
 

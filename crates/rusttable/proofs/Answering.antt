@@ -8,7 +8,6 @@ use Prim.Native.Nat.{ℕ, ◌+◌, ◌^◌, min}
 use native.Mathlib.Omega.{arith}
 use borrow.Author.Tests.{ltb-true, leb-true}
 use lib.Dec.{leb, ltb}
-use lib.ListN.{length}
 use Rattle.layout.proofs.Tests.{not_both, and_left, and_right}
 use Rattle.regionmap.specs.declared.Offset.{Offset}
 use Rattle.regionmap.specs.Map.{place, map_run_left}
@@ -31,7 +30,7 @@ use Rattle.step.specs.Run.{leave}
 use Rattle.step.specs.Lists.{HostMay}
 use Rattle.step.proofs.Answers.{Passed}
 use Rattle.rusttable.specs.Table.{IoBuf, RawError, Error, Submitter, Req, Submitted, Submitted.Taken, Submitted.Refused, Issued}
-use Rattle.rusttable.specs.Functions.{ready, returned, submit, issued_with, rejected}
+use Rattle.rusttable.specs.Functions.{returned, submit, issued_with, rejected}
 use Rattle.rusttable.specs.Domain.{compared}
 use Rattle.rusttable.specs.AsStep.{buf_of, error_as, split_of, table_of, submitter_of, in_flight, refusal_of, refused_error, req_as, issued_as, Submits}
 use Rattle.rusttable.proofs.Submitting.{settled_as, taken_is, refused_is}

@@ -18,7 +18,7 @@ use Rattle.step.specs.Run.{leave, done, next, reply_to, run}
 use Rattle.step.specs.Figures.{figures_opening, figures_plan, figures_lengths, figures_table, asking, in_buffer}
 use Rattle.rusttable.specs.Table.{Submitter}
 use Rattle.rusttable.specs.RegionMap.{run as rustRunAt, searched, run_of, locate, run_end, run_left}
-use Rattle.rusttable.specs.Functions.{given, tried, is_some, set_len, ctx, ctx_range, unpoisoned as rustUnpoisoned, ready, ready_for, enter, owns, empty_row, new, full, popped, claim, row_with, with_rows, start, with_table, check, first_piece, admit, with_or_not, submit, issue, told_as, issued_with, write}
+use Rattle.rusttable.specs.Functions.{given, tried, set_len, ctx, ctx_range, unpoisoned as rustUnpoisoned, ready, ready_for, enter, owns, empty_row, new, full, popped, claim, row_with, with_rows, start, with_table, check, first_piece, admit, with_or_not, submit, issue, told_as, issued_with, write}
 use Rattle.rusttable.specs.Domain.{compared, known_handle, at_once, write_offset_on_block, unjoined_from, unjoined}
 use Rattle.rusttable.specs.AsStep.{buf_of, pos_of, table_of, submitter_of}
 use Rattle.rusttable.specs.Histories.{rust_step, rust_run, rust_opened, verdict, verdict_as, refused_by, handed_by, handed, is_submission, MadeIn, HistoryIn}

@@ -7,7 +7,6 @@ use mathlib.Core.Option
 use mathlib.Core.Option.{Option, none, some}
 use Prim.Native.Nat.{ℕ, min}
 use native.Mathlib.Nat.{add-zero, sub-zero}
-use lib.ListN.{length}
 use Rattle.regionmap.specs.Map.{map_run_left, place, piece_size}
 use Rattle.completion.specs.declared.Reply.{Reply}
 use Rattle.model.specs.declared.Lengths.{Lengths}

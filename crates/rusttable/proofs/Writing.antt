@@ -7,7 +7,7 @@ use mathlib.Core.Option.{Option, none, some}
 use Prim.Native.Nat.{ℕ, ◌+◌, ◌^◌}
 use borrow.Author.Tests.{not-true, not-false}
 use lib.Dec.{leb, ltb, eqb}
-use lib.ListN.{length, length-map}
+use lib.ListN.{length-map}
 use Rattle.layout.specs.Pick.{pick}
 use Rattle.layout.specs.Block.{on_block}
 use Rattle.layout.proofs.Tests.{not_both}

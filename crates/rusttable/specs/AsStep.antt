@@ -6,22 +6,12 @@ use Rattle.layout.specs.Pick.{pick}
 use Rattle.regionmap.specs.declared.Offset.{Offset}
 use Rattle.regionmap.specs.Map.{Map}
 use Rattle.domain.specs.declared.{Op.Op, OsError.OsError}
-use Rattle.domain.specs.declared.OsError.TheVariants as OsError
 use Rattle.platform.specs.declared.Answer.{Answer}
-use Rattle.platform.specs.declared.Answer.TheVariants as Answer
 use Rattle.platform.specs.declared.Flushed.{Flushed as FlushResult}
 use Rattle.platform.specs.declared.Flushed.TheVariants as Flushed
 use Rattle.completion.specs.declared.{WriteTicket.WriteTicket, Range.Range, Context.Context, Refusal.Refusal, Outcome.Outcome, Buffer.Buffer}
-use Rattle.completion.specs.declared.Context.TheVariants as Context
-use Rattle.completion.specs.declared.Refusal.TheVariants as Refusal
-use Rattle.completion.specs.declared.Outcome.TheVariants as Outcome
-use Rattle.completion.specs.declared.Buffer.TheVariants as Buffer
 use Rattle.completion.specs.declared.{Completion.Completion, Reply.Reply}
-use Rattle.completion.specs.declared.Reply.TheVariants as Reply
 use Rattle.model.specs.declared.{Opening.Opening, Lengths.Lengths, Kind.Kind, Split.Split, Awaits.Awaits, Row.Row, Request.Request, Call.Call}
-use Rattle.model.specs.declared.Kind.TheVariants as Kind
-use Rattle.model.specs.declared.Awaits.TheVariants as Awaits
-use Rattle.model.specs.declared.Call.TheVariants as Call
 use Rattle.model.specs.State.{State}
 use Rattle.model.specs.Opening.{Plan, opened}
 use Rattle.step.specs.Questions.{region_at}

@@ -8,10 +8,8 @@ use Rattle.layout.specs.Pick.{pick}
 use Rattle.layout.specs.Block.{on_block}
 use Rattle.regionmap.specs.Map.{Run, first_run}
 use Rattle.completion.specs.declared.Reply.{Reply}
-use Rattle.completion.specs.declared.Reply.TheVariants as Reply
 use Rattle.completion.specs.Numbers.{number}
 use Rattle.model.specs.declared.{Lengths.Lengths, Call.Call}
-use Rattle.model.specs.declared.Call.TheVariants as Call
 use Rattle.model.specs.State.{Region, State}
 use Rattle.step.specs.Rules.{is_refusal}
 use Rattle.step.specs.Step.{step}

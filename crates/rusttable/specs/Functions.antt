@@ -10,15 +10,11 @@ use Rattle.layout.specs.Pick.{pick}
 use Rattle.regionmap.specs.declared.Position.{Position}
 use Rattle.regionmap.specs.Words.{position_of}
 use Rattle.domain.specs.declared.{Op.Op, OsError.OsError, FirstCause.FirstCause}
-use Rattle.domain.specs.declared.Op.TheVariants as Op
-use Rattle.domain.specs.declared.OsError.TheVariants as OsError
 use Rattle.domain.specs.declared.Poisoned.{Poisoned as Poison}
 use Rattle.domain.specs.declared.Poisoned.TheVariants as Poisoned
 use Rattle.domain.specs.Domain.{first_kept}
 use Rattle.completion.specs.declared.{WriteTicket.WriteTicket, DurableReceipt.DurableReceipt}
 use Rattle.model.specs.declared.{Kind.Kind, Split.Split, Gate.Gate}
-use Rattle.model.specs.declared.Kind.TheVariants as Kind
-use Rattle.model.specs.declared.Gate.TheVariants as Gate
 use Rattle.model.specs.State.{Region, no_region, up_from, receipt_made}
 use Rattle.rusttable.specs.RegionMap.{run_left, locate}
 use Rattle.rusttable.specs.Table.{Result, Result.Ok, Result.Err, IoBuf, RawError, RawResult, ErrorContext, Error, Flushed, Written, Done}

@@ -9,7 +9,6 @@ use Rattle.layout.specs.Pick.{pick}
 use Rattle.domain.specs.declared.FirstCause.{FirstCause}
 use Rattle.domain.specs.declared.Poisoned.TheVariants as Poisoned
 use Rattle.platform.specs.declared.Answer.{Answer}
-use Rattle.platform.specs.declared.Answer.TheVariants as Answer
 use Rattle.completion.specs.declared.Reply.{Reply}
 use Rattle.model.specs.declared.{Opening.Opening, Lengths.Lengths, Gate.Gate}
 use Rattle.model.specs.declared.Call.TheVariants as Call

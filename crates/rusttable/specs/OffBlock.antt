@@ -9,7 +9,6 @@ use Rattle.completion.specs.declared.Context.TheVariants as Context
 use Rattle.completion.specs.declared.Refusal.TheVariants as Refusal
 use Rattle.completion.specs.declared.Reply.TheVariants as Reply
 use Rattle.model.specs.declared.Call.{Call}
-use Rattle.model.specs.declared.Call.TheVariants as Call
 use Rattle.model.specs.Opening.{plans_in}
 use Rattle.step.specs.Run.{Made.calls, Event, next, reply_to, run}
 use Rattle.step.specs.Step.{step}

@@ -1,6 +1,6 @@
 -- A line before `open`: by what the line says, the definition computes.
 use mathlib.Core.Path.{◌≡◌, refl, sym, ◌∙◌, subst}
-use mathlib.Core.List.{List, [], ◌∷◌}
+use mathlib.Core.List.{List, []}
 use Prim.Native.Nat.{ℕ}
 use Rattle.model.specs.declared.Opening.{Opening}
 use Rattle.parser.specs.declared.preamble.OpenLine.{OpenLine}

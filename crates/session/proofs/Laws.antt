@@ -1,17 +1,17 @@
 -- What keeps all rules opens just where it fits: the rules on numbers, regions and the plan are the same, those on lengths are asked of the program's memory.
 use mathlib.Core.Path.{◌≡◌, refl, sym, ap, ◌∙◌}
-use mathlib.Core.Bool.{Bool, true, false, ◌&&◌}
+use mathlib.Core.Bool.{Bool, true, ◌&&◌}
 use mathlib.Core.Logic.{⊎_elim}
-use mathlib.Core.List.{List, [], ◌∷◌}
-use Prim.Native.Nat.{ℕ, ◌+◌, ◌*◌, ◌≤◌, ◌<◌, min}
+use mathlib.Core.List.{List}
+use Prim.Native.Nat.{ℕ, ◌*◌, min}
 use native.Mathlib.Omega.{arith}
-use lib.ListN.{length, take, length-take}
-use lib.Dec.{leb, eqb}
+use lib.ListN.{length, length-take}
+use lib.Dec.{leb}
 use borrow.Author.Tests.{leb-true, le-leb, eqb-true, eq-eqb}
 use Rattle.layout.proofs.Tests.{true_or_false, not_both, refused, and_left, and_right, and_both}
 use Rattle.model.specs.declared.Opening.{Opening}
 use Rattle.model.specs.declared.Lengths.{Lengths}
-use Rattle.model.specs.Opening.{Plan, all_true, number_rules, length_rules, region_rules, pool_rule, memory_rule, store_words, ready_words, admits, plans_in, listed, opens}
+use Rattle.model.specs.Opening.{all_true, number_rules, length_rules, region_rules, pool_rule, memory_rule, store_words, ready_words, admits, plans_in, listed, opens}
 use Rattle.model.specs.Memory.{Lent, lengths_of}
 use Rattle.model.proofs.Laws.{opening_laws}
 use Rattle.session.specs.Start.{lengths_for, keeps, lent_for, opens_in, Memory, StartLaws}

@@ -1,6 +1,6 @@
 -- How each kind of line is answered: by what the line says, the definition computes.
 use mathlib.Core.Path.{◌≡◌, refl, sym, ap, ◌∙◌, subst}
-use mathlib.Core.List.{List, [], ◌∷◌}
+use mathlib.Core.List.{List}
 use Prim.Native.Nat.{ℕ, ◌-◌}
 use lib.ListN.{length, take}
 use Rattle.model.specs.declared.Counts.{Counts}
@@ -14,7 +14,7 @@ use Rattle.parser.specs.declared.requests.Asks.{Asks}
 use Rattle.parser.specs.declared.requests.Named.{Named}
 use Rattle.parser.specs.Asks.{asks_of}
 use Rattle.session.specs.Host.{FillsIn, summed, ListsIn}
-use Rattle.session.specs.Asking.{Held, held_of, named_in, Still, Asked}
+use Rattle.session.specs.Asking.{Held, held_of, named_in, Asked}
 use Rattle.session.proofs.Doing.{Same, moved}
 use Rattle.session.specs.Table.{LooksAs, shorter, with_pool, Answers}
 

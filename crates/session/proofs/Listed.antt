@@ -7,9 +7,7 @@ use lib.ListN.{length, length-take}
 use Rattle.model.specs.declared.Counts.{Counts}
 use Rattle.model.specs.declared.Row.{Row}
 use Rattle.model.specs.Memory.{settings_in, state_in}
-use Rattle.step.specs.Sound.{Sound}
 use Rattle.printer.specs.Listed.{listed_text}
-use Rattle.hostfill.specs.MayFill.{Open}
 use Rattle.session.specs.Host.{ListsIn}
 
 -- its depth is at most 64

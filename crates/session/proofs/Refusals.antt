@@ -1,6 +1,6 @@
 -- A line after a refusal: by what the line says, the definition computes.
 use mathlib.Core.Path.{◌≡◌, refl, sym, ap, ◌∙◌}
-use mathlib.Core.List.{List, [], ◌∷◌}
+use mathlib.Core.List.{List, []}
 use Prim.Native.Nat.{ℕ}
 use Rattle.parser.specs.declared.forms.Said.{Said}
 use Rattle.parser.specs.declared.forms.Said.TheVariants.{Comment, Call, Own, Count, Look, Len, Fill, Sum, Rows, Bad}

@@ -1,7 +1,7 @@
 -- `start`: by what became of the opening, the definition computes; an opening that did not open the table has changed nothing.
 use mathlib.Core.Path.{◌≡◌, refl, sym, ap, ◌∙◌, subst}
 use mathlib.Core.Bool.{Bool, true, false}
-use mathlib.Core.List.{List, [], ◌∷◌}
+use mathlib.Core.List.{List}
 use Prim.Native.Nat.{ℕ, ◌*◌, ◌≤◌}
 use native.Mathlib.Omega.{arith}
 use lib.ListN.{length, take}
@@ -12,8 +12,7 @@ use Rattle.model.specs.declared.Counts.{Counts}
 use Rattle.model.specs.declared.Opening.{Opening}
 use Rattle.model.specs.declared.Row.{Row}
 use Rattle.model.specs.State.{fresh}
-use Rattle.model.specs.Memory.{Lent, lengths_of, opened_lent, lent_after}
-use Rattle.model.specs.Opening.{opens}
+use Rattle.model.specs.Memory.{Lent, opened_lent, lent_after}
 use Rattle.optable.specs.Called.{lent_of}
 use Rattle.printer.specs.Replay.{replay_text}
 use Rattle.session.specs.declared.start.Started.{Started}

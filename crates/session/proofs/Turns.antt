@@ -1,7 +1,7 @@
 -- What ends the program, and what a step in the input alone leaves as it was.
 use mathlib.Core.Path.{◌≡◌, refl, sym, ap}
 use mathlib.Core.Bool.{Bool, true}
-use mathlib.Core.List.{List, [], ◌∷◌}
+use mathlib.Core.List.{List}
 use Prim.Native.Nat.{ℕ}
 use Rattle.optable.specs.Called.{lent_of}
 use Rattle.session.specs.declared.Stage.{Stage}

@@ -2,12 +2,10 @@
 use Rattle.std.specs.Prelude.{◌≡◌, List, [], ℕ, ◌+◌, get_or}
 use Rattle.completion.specs.declared.Reply.{Reply}
 use Rattle.model.specs.declared.{Counts.Counts, Call.Call}
-use Rattle.model.specs.declared.Call.TheVariants as Call
 use Rattle.model.specs.Memory.{Lent}
 use Rattle.model.specs.Opening.{HEAD}
 use Rattle.optable.specs.Called.{CallsTo}
 use Rattle.parser.specs.declared.{requests.Named.Named, requests.Asks.Asks}
-use Rattle.parser.specs.declared.requests.Asks.TheVariants as Asks
 use Rattle.printer.specs.Texts.{bad_text}
 use Rattle.printer.specs.Replay.{replay_text}
 

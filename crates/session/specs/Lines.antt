@@ -4,7 +4,6 @@ use Rattle.std.specs.Prelude.{List, [], ℕ}
 use Rattle.parser.specs.Said.{said_read}
 use Rattle.parser.specs.Openings.{open_line_read}
 use Rattle.session.specs.declared.Stage.{Stage}
-use Rattle.session.specs.declared.Stage.TheVariants as Stage
 use Rattle.session.specs.Unopened.{Stood, at_stage, told, Tells, before_line, planned_line}
 use Rattle.session.specs.Opened.{refused_line, TableLine}
 

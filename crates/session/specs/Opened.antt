@@ -2,7 +2,6 @@
 use Rattle.std.specs.Prelude.{◌≡◌, List, [], ◌++◌, ℕ, take, drop}
 use Rattle.optable.specs.Called.{lent_of}
 use Rattle.parser.specs.declared.forms.Said.{Said}
-use Rattle.parser.specs.declared.forms.Said.TheVariants as Said
 use Rattle.printer.specs.Texts.{bad_text}
 use Rattle.session.specs.Asking.{Held, held_of}
 use Rattle.session.specs.Table.{Answers}

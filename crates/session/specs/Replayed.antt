@@ -5,7 +5,6 @@ use Rattle.fields.specs.Trace.{Kept}
 use Rattle.optable.specs.Called.{lent_of}
 use Rattle.input.specs.Input.{Turned as TurnedIn}
 use Rattle.session.specs.declared.{Stage.Stage, turn.Running.Running}
-use Rattle.session.specs.declared.Stage.TheVariants as Stage
 use Rattle.session.specs.Unopened.{Stood, stood_at}
 use Rattle.session.specs.Lines.{Line}
 

@@ -6,7 +6,6 @@ use Rattle.model.specs.declared.{Opening.Opening, Lengths.Lengths, Row.Row}
 use Rattle.model.specs.Opening.{store_words, ready_words, opens}
 use Rattle.model.specs.Memory.{Lent, lengths_of, lent_after}
 use Rattle.session.specs.declared.start.Started.{Started}
-use Rattle.session.specs.declared.start.Started.TheVariants as Started
 
 -- a row memory just as long as the opening needs, and a pool of "exactly count × capacity bytes": with these only the opening's own rules are asked
 unfoldable pub lengths_for : Opening → Lengths

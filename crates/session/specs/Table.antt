@@ -2,12 +2,10 @@
 use Rattle.std.specs.Prelude.{◌≡◌, List, [], ℕ, ◌-◌, length, take}
 use Rattle.completion.specs.declared.Reply.{Reply}
 use Rattle.model.specs.declared.{Counts.Counts, Lookup.Lookup}
-use Rattle.model.specs.declared.Lookup.TheVariants as Lookup
 use Rattle.model.specs.Memory.{Lent}
 use Rattle.optable.specs.Called.{LooksTo}
 use Rattle.optable.specs.Held.{lent_with}
 use Rattle.parser.specs.declared.forms.Said.{Said}
-use Rattle.parser.specs.declared.forms.Said.TheVariants as Said
 use Rattle.parser.specs.Asks.{asks_of}
 use Rattle.printer.specs.Texts.{bad_text}
 use Rattle.printer.specs.Replay.{replay_text}

@@ -1,6 +1,6 @@
 -- The lines before the table is open: TRACE.md's "Opening". "A line of another form or out of its place (an empty one, a call before `start`, a
 -- second `open`) .. prints `bad` and its number in the file, from 1, and changes nothing".
-use Rattle.std.specs.Prelude.{◌≡◌, List, [], ◌∷◌, ℕ, length}
+use Rattle.std.specs.Prelude.{◌≡◌, List, [], ℕ, length}
 use Rattle.completion.specs.declared.Refusal.TheVariants as Refusal
 use Rattle.completion.specs.declared.Reply.TheVariants as Reply
 use Rattle.model.specs.declared.{Counts.Counts, Opening.Opening}
@@ -8,15 +8,12 @@ use Rattle.model.specs.Memory.{Lent, lent_after}
 use Rattle.model.specs.State.{fresh}
 use Rattle.optable.specs.Called.{lent_of}
 use Rattle.parser.specs.declared.preamble.OpenLine.{OpenLine}
-use Rattle.parser.specs.declared.preamble.OpenLine.TheVariants as OpenLine
 use Rattle.parser.specs.Openings.{regions_after, plan_after}
 use Rattle.printer.specs.Texts.{bad_text}
 use Rattle.printer.specs.Replay.{replay_text}
 use Rattle.fields.specs.Codes.{codes}
 use Rattle.session.specs.declared.{start.Started.Started, Stage.Stage}
-use Rattle.session.specs.declared.start.Started.TheVariants as Started
 use Rattle.session.specs.Start.{lent_for, started_as}
-use Rattle.session.specs.declared.Stage.TheVariants as Stage
 
 -- where a trace stands: the stage, the plan as far as its lines have come, "the flush count last given, 0 at first", the counts and the program's
 -- memory

@@ -1,6 +1,6 @@
 -- What the proofs of this crate and of those above it share: a count that is written, a sum that fits, an answer that is no count,
 -- an end and a ticket by their parts.
-use Rattle.std.proofs.Common.{◌≡◌, ℕ, ◌+◌, ◌-◌, ◌%◌, ◌^◌, ◌<◌, ◌≤◌, Bool, true, false, ◌&&◌, eqb, leb, List, [], ◌∷◌, sym, refl, ap, ◌∙◌, ⊎_elim, mod-eq_of_lt, arith, eq-eqb, ne_eqb, eqb-true, leb-false, leb-true}
+use Rattle.std.proofs.Common.{◌≡◌, ℕ, ◌+◌, ◌-◌, ◌%◌, ◌^◌, ◌<◌, ◌≤◌, Bool, true, false, ◌&&◌, eqb, leb, List, sym, refl, ap, ◌∙◌, ⊎_elim, mod-eq_of_lt, arith, eq-eqb, ne_eqb, eqb-true, leb-false, leb-true}
 use mathlib.Core.Option.{Option}
 use borrow.Author.Tests.{eqb-false}
 use Rattle.layout.proofs.Tests.{true_or_false}

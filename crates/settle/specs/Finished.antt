@@ -4,16 +4,12 @@ use Rattle.std.proofs.Math.Option.{Option, none, some}
 use Rattle.regionmap.specs.Map.{Map}
 use Rattle.iobuf.specs.Turn.{turned}
 use Rattle.domain.specs.declared.{FirstCause.FirstCause, Poisoned.Poisoned}
-use Rattle.domain.specs.declared.Poisoned.TheVariants as Poisoned
 use Rattle.platform.specs.declared.Answer.{Answer}
-use Rattle.platform.specs.declared.Answer.TheVariants as Answer
 use Rattle.model.specs.declared.{Split.Split, Awaits.Awaits}
-use Rattle.model.specs.declared.Awaits.TheVariants as Awaits
 use Rattle.model.specs.Opening.{Plan}
 use Rattle.memory.specs.declared.liveregion.LiveRegion.{LiveRegion}
 use Rattle.step.specs.Rules.{piece_length, Fate, Fate.away, Fate.awaits, Fate.ends, Fate.rejected}
 use Rattle.settle.specs.declared.{Turn.Turn, Finished.Finished}
-use Rattle.settle.specs.declared.Finished.TheVariants as Finished
 
 -- the cause with which the store is poisoned, if any
 unfoldable pub cause_is : Poisoned → Option FirstCause

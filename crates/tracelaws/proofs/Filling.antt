@@ -1,23 +1,22 @@
 -- Where `fill` may write the host may: the buffer is one that it holds, or the bytes are within a read's piece under way.
 use mathlib.Core.Path.{◌≡◌, refl, sym, ap, ◌∙◌, subst}
-use mathlib.Core.Logic.{◌≢◌, ◌⊎◌, inl, inr}
+use mathlib.Core.Logic.{◌⊎◌, inl, inr}
 use mathlib.Core.Bool.{Bool, true, false, ◌&&◌, ◌||◌}
 use mathlib.Core.List.{List, [], ◌∷◌, ◌++◌, append_assoc}
-use Prim.Native.Nat.{ℕ, zero, suc, ◌+◌, ◌-◌, ◌*◌, ◌≤◌, ◌<◌}
+use Prim.Native.Nat.{ℕ, zero, suc, ◌+◌, ◌-◌, ◌*◌, ◌≤◌}
 use native.Mathlib.Nat.{le_of_suc-le-suc, not-suc-le-zero}
 use native.Mathlib.Decide.{ℕ_discrete}
 use native.Mathlib.Omega.{arith}
-use lib.ListN.{length, get_or, take, drop, length-append, length-take, length-drop}
-use lib.Seq.{take-take, take-add, drop-drop, drop-nil, take-nil, drop-append-add, length-take-le}
+use lib.ListN.{length, get_or, take, drop, length-append, length-drop}
+use lib.Seq.{take-take, take-add, drop-drop, drop-append-add, length-take-le}
 use lib.Dec.{eqb, leb, ltb}
 use borrow.Author.Tests.{eqb-true, leb-true}
-use Rattle.layout.proofs.Tests.{true_or_false, and_left, and_right, not_both}
+use Rattle.layout.proofs.Tests.{and_left, and_right, not_both}
 use Rattle.iobuf.specs.Turn.{stretch, with_stretch}
 use Rattle.iobuf.specs.TurnLaws.{Fits}
 use Rattle.iobuf.proofs.Laws.{turn_laws}
 use Rattle.model.specs.declared.{Awaits.Awaits, Row.Row}
 use Rattle.model.specs.declared.Kind.TheVariants as Kind
-use Rattle.model.specs.declared.Awaits.TheVariants as Awaits
 use Rattle.model.specs.State.{State, freed}
 use Rattle.step.specs.Questions.{held_at}
 use Rattle.step.specs.Step.{row_at, bytes_at, is_live}

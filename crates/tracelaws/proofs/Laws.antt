@@ -16,7 +16,6 @@ use Rattle.optable.specs.Called.{lent_of}
 use Rattle.optable.specs.Held.{Holds, start_at}
 use Rattle.optable.proofs.Held.{held_laws}
 use Rattle.step.specs.Run.{Event, Start}
-use Rattle.hostfill.specs.MayFill.{Open}
 use Rattle.parser.specs.declared.preamble.OpenLine.{OpenLine}
 use Rattle.parser.specs.declared.preamble.OpenLine.TheVariants.{Comment, Open as opens-with, Region, Start as starts, Bad}
 use Rattle.parser.specs.Openings.{open_line_read}

@@ -1,11 +1,10 @@
 -- Handle 0's own names are read from the words where an open table has them: it has a region, whose words are the first.
-use mathlib.Core.Path.{◌≡◌, refl, sym, ap, ◌∙◌}
+use mathlib.Core.Path.{◌≡◌, sym, ◌∙◌}
 use mathlib.Core.List.{List}
 use Prim.Native.Nat.{ℕ, zero, suc, ◌+◌, ◌<◌}
 use native.Mathlib.Omega.{arith}
 use lib.ListN.{get_or, take, drop}
 use lib.Seq.{get_or-drop, get_or-take}
-use Rattle.parser.specs.declared.requests.Named.{Named}
 use Rattle.model.specs.declared.Counts.{Counts}
 use Rattle.model.specs.State.{no_region}
 use Rattle.model.specs.Memory.{Lent, settings_in, region_in, regions_in, state_in}

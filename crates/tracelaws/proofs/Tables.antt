@@ -3,34 +3,24 @@ use mathlib.Core.Path.{◌≡◌, refl, sym, ap, ◌∙◌, subst}
 use mathlib.Core.Logic.{inl, inr}
 use mathlib.Core.Bool.{Bool, true, false}
 use mathlib.Core.List.{List, [], ◌∷◌, ◌++◌, append-nil}
-use Prim.Native.Nat.{ℕ, ◌-◌, ◌<◌, ◌≤◌}
+use Prim.Native.Nat.{ℕ, ◌-◌, ◌<◌}
 use native.Mathlib.Omega.{arith}
-use lib.ListN.{length, take, length-take}
+use lib.ListN.{length}
 use lib.Seq.{length-take-le}
-use lib.Dec.{eqb}
-use borrow.Author.Tests.{eqb-true}
 use Rattle.layout.specs.Pick.{pick}
-use Rattle.layout.proofs.Tests.{and_left, and_right}
-use Rattle.completion.specs.declared.Reply.{Reply}
 use Rattle.model.specs.declared.{Counts.Counts, Lengths.Lengths, Call.Call, Lookup.Lookup}
-use Rattle.model.specs.declared.Lookup.TheVariants as Lookup
-use Rattle.model.specs.State.{State}
 use Rattle.model.specs.Memory.{Lent, lengths_of, settings_in, state_in}
 use Rattle.step.specs.Step.{bytes_at}
-use Rattle.step.specs.Run.{Made, Made.calls, Made.looks, Event, Start, after, reply_to}
+use Rattle.step.specs.Run.{Made.calls, Made.looks, Event, Start}
 use Rattle.step.specs.Lists.{HostMay}
-use Rattle.optable.specs.Called.{lent_of, CallsTo, LooksTo}
-use Rattle.optable.specs.Held.{lent_with, Holds, MakesTo, Turn, TurnFrom, HoldsNext, event}
+use Rattle.optable.specs.Held.{lent_with, Holds, MakesTo, Turn, TurnFrom, event}
 use Rattle.optable.proofs.Held.{held_laws, holds_fits, holds_sound, words_say}
 use Rattle.parser.specs.declared.{forms.Said.Said, requests.Asks.Asks}
-use Rattle.parser.specs.declared.forms.Said.TheVariants as Said
-use Rattle.parser.specs.declared.requests.Asks.TheVariants as Asks
 use Rattle.parser.specs.Asks.{asks_of}
 use Rattle.printer.specs.Replay.{replay_text}
 use Rattle.hostfill.specs.Writes.{filled, place_in}
 use Rattle.hostfill.specs.MayFill.{may_fill, Open}
-use Rattle.session.specs.Host.{FillsIn}
-use Rattle.session.specs.Asking.{Held, named_in, Still, Ran, Asked}
+use Rattle.session.specs.Asking.{Held, named_in, Ran, Asked}
 use Rattle.session.specs.Table.{LooksAs, shorter, with_pool, Fills, Answers}
 use Rattle.tracelaws.specs.Laws.{asked_events, line_events, IsStep, Leaves}
 use Rattle.tracelaws.proofs.Filling.{may_fill_lem}

@@ -3,22 +3,18 @@
 -- promised of every line, and what a line of calls prints is the step's reply after that history. Proved in proofs/Laws.antt (trace-laws).
 use Rattle.std.specs.Prelude.{◌≡◌, List, [], ◌∷◌, ◌++◌, ℕ}
 use Rattle.model.specs.declared.{Opening.Opening, Counts.Counts, Lookup.Lookup}
-use Rattle.model.specs.declared.Lookup.TheVariants as Lookup
 use Rattle.model.specs.Memory.{Lent, lengths_of, state_in}
 use Rattle.step.specs.Questions.{region_at}
 use Rattle.step.specs.Run.{Made.calls, Made.looks, Event, Start, opened_by, next, after, reply_to}
 use Rattle.optable.specs.Held.{Holds, event, Begins}
 use Rattle.hostfill.specs.MayFill.{Open}
 use Rattle.parser.specs.declared.{forms.Said.Said, requests.Asks.Asks}
-use Rattle.parser.specs.declared.forms.Said.TheVariants as Said
-use Rattle.parser.specs.declared.requests.Asks.TheVariants as Asks
 use Rattle.parser.specs.Asks.{asks_of}
 use Rattle.parser.specs.Said.{said_read}
 use Rattle.printer.specs.Replay.{replay_text}
 use Rattle.session.specs.Asking.{Held, named_in}
 use Rattle.session.specs.Table.{shorter}
 use Rattle.session.specs.declared.Stage.{Stage}
-use Rattle.session.specs.declared.Stage.TheVariants as Stage
 use Rattle.session.specs.Start.{lent_for}
 use Rattle.session.specs.Unopened.{Stood}
 use Rattle.session.specs.Opened.{part_of, TableLine}

@@ -1,5 +1,5 @@
 -- `arrival::arrive` meets its contract: what its callees read, found and wrote.
-use Rattle.std.proofs.Common.{ℕ, get_or, ap, ◌∙◌, rules}
+use Rattle.std.proofs.Common.{ℕ, get_or, ap, ◌∙◌}
 use Rattle.model.specs.State.{freed}
 use Rattle.arrival.proofs.Raw.{row_fits}
 use Rattle.arrival.proofs.Arriving.{arrived, place_of_lem, at_place}

@@ -1,6 +1,5 @@
 -- `arrival::becomes` meets its contract, by what arrives.
 use Rattle.arrival.specs.Arrived.{BecomesIn}
-use Rattle.std.proofs.Common.{rules}
 use Rattle.arrival.proofs.becomes.Goals as goal
 
 pub returns-in-Answer : goal.returns-in-Answer

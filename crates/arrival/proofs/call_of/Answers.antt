@@ -1,6 +1,5 @@
 -- `arrival::call_of` meets its contract, by what arrives.
 use Rattle.arrival.specs.Arrived.{arrived_call}
-use Rattle.std.proofs.Common.{rules}
 use Rattle.arrival.proofs.call_of.Goals as goal
 
 pub returns-in-Answer : goal.returns-in-Answer

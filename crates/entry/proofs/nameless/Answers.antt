@@ -6,7 +6,6 @@ use Rattle.completion.specs.declared.Refusal.TheVariants.{Unfit}
 use Rattle.completion.specs.declared.Reply.TheVariants.{No as turnedAway}
 use Rattle.abi.specs.ReplyWords.{reply_words, unknown_words}
 use Rattle.entry.specs.Entry.{nameless_words}
-use borrow.Author.Rules.{rules}
 use Rattle.entry.proofs.nameless.Goals as goal
 
 pub returns-then-fits : goal.returns-then-fits

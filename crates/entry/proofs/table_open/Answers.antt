@@ -1,7 +1,6 @@
 -- `entry::table_open` meets its contract, by the reply of the opening (Opening).
 use mathlib.Core.Path.{refl}
 use Rattle.entry.proofs.EntryOpening.{is_table, is_refused_lem}
-use borrow.Author.Rules.{rules}
 use Rattle.entry.proofs.table_open.Goals as goal
 
 pub returns-in-Table : goal.returns-in-Table

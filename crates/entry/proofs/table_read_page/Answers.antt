@@ -1,5 +1,4 @@
 -- `entry::table_read_page` meets its contract: the request is the one in the words.
-use borrow.Author.Rules.{rules}
 use Rattle.entry.proofs.table_read_page.Goals as goal
 
 pub returns : goal.returns

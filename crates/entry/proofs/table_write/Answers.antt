@@ -1,5 +1,4 @@
 -- `entry::table_write` meets its contract: the request is the one in the words.
-use borrow.Author.Rules.{rules}
 use Rattle.entry.proofs.table_write.Goals as goal
 
 pub returns : goal.returns

@@ -3,8 +3,6 @@ use mathlib.Core.Path.{◌≡◌, refl, sym, ap, ◌∙◌}
 use mathlib.Core.Bool.{Bool, true, ◌&&◌}
 use mathlib.Core.List.{List}
 use Prim.Native.Nat.{ℕ, ◌+◌, ◌*◌, ◌≤◌, ◌<◌}
-use borrow.Author.Rules.{rules}
-use borrow.Author.Tests.{not-true, not-false}
 use lib.ListN.{length, get_or}
 use Rattle.model.specs.declared.Opening.{Opening}
 use Rattle.model.specs.declared.Lengths.{Lengths}
@@ -19,35 +17,27 @@ module _ (o : Opening) (plan : List ℕ) (l : Lengths) where
   abbrev N : Bool
   N = all_true (number_rules o)
 
-
   abbrev L : Bool
   L = all_true (length_rules o (listed o plan) l)
-
 
   abbrev E : Bool
   E = each_region o.block (plans_in o.regions plan)
 
-
   abbrev R : Bool
   R = ids_rule (plans_in o.regions plan) && (within_rule o (plans_in o.regions plan) && (apart_rule (plans_in o.regions plan) && true))
-
 
   by_parts : opens o plan l ≡ (N && (L && (E && R)))
   unfolding opens admits region_rules all_true
   by_parts = refl
 
-
   behind-numbers : N ≡ true → opens o plan l ≡ (L && (E && R))
   behind-numbers n = by_parts ∙ ap (λ (t : Bool). t && (L && (E && R))) n
-
 
   behind-lengths : N ≡ true → L ≡ true → opens o plan l ≡ (E && R)
   behind-lengths n m = behind-numbers n ∙ ap (λ (t : Bool). t && (E && R)) m
 
-
   behind-each : N ≡ true → L ≡ true → E ≡ true → opens o plan l ≡ R
   behind-each n m e = behind-lengths n m ∙ ap (λ (t : Bool). t && R) e
-
 
 -- what is known behind each test
 numbers-true : (c : Else-not-numbers) → N c.args.o c.args.plan.now c.args.l ≡ true

@@ -7,7 +7,6 @@ use Rattle.opening.specs.declared.Opened.{Opened}
 use Rattle.opening.specs.declared.Opened.TheVariants.{Table}
 use Rattle.model.specs.State.{fresh}
 use Rattle.opening.specs.Opened.{refused, opened_with}
-use borrow.Author.Rules.{rules}
 use Rattle.opening.proofs.reply.Goals as goal
 
 pub returns-then-depth-eq0 : goal.returns-then-depth-eq0

@@ -1,5 +1,5 @@
 -- `optable::accepted` meets its contract, by that of the wrapping sum.
-use Rattle.std.proofs.Common.{Bool, sym, ap, ◌∙◌, rules}
+use Rattle.std.proofs.Common.{Bool, sym, ap, ◌∙◌}
 use Rattle.layout.specs.Pick.{pick}
 use Rattle.regionmap.specs.Found.{wrap64}
 use Rattle.optable.specs.Counted.{accepted_if}

@@ -1,5 +1,5 @@
 -- `optable::released` meets its contract, case by case.
-use Rattle.std.proofs.Common.{◌≡◌, sym, ap, ◌∙◌, rules}
+use Rattle.std.proofs.Common.{◌≡◌, sym, ap, ◌∙◌}
 use Rattle.regionmap.specs.Found.{wrap64}
 use Rattle.model.specs.declared.Counts.{Counts}
 use Rattle.optable.specs.declared.Frees.{Frees}

@@ -1,5 +1,5 @@
 -- `optable::top` meets its contract: past the end the word is 0.
-use Rattle.std.proofs.Common.{sym, rules}
+use Rattle.std.proofs.Common.{sym}
 use lib.ListN.{get_or-eq_default}
 use Rattle.optable.proofs.top.Goals as goal
 

@@ -2,11 +2,9 @@
 use mathlib.Core.Path.{sym, ap, ◌∙◌}
 use Prim.Native.Nat.{ℕ}
 use lib.ListN.{length}
-use borrow.Author.Tests.{not-true, not-false}
 use Rattle.model.specs.Memory.{lengths_of, same_lengths}
 use Rattle.memory.specs.Lengths.{lengths_with}
 use Rattle.queuecore.proofs.QueuecoreTouching.{unfit}
-use borrow.Author.Rules.{rules}
 use Rattle.queuecore.proofs.touch.Goals as goal
 
 pub returns-then-not-fits : goal.returns-then-not-fits

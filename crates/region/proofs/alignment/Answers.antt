@@ -1,5 +1,4 @@
 -- `region::alignment` meets its contract: it asks the definition's two tests.
-use borrow.Author.Rules.{rules}
 use Rattle.step.specs.Questions.{aligned}
 use Rattle.region.proofs.alignment.Goals as goal
 

@@ -1,6 +1,5 @@
 -- `region::names` meets its contract: each way out knows which test was the first to fail, and the list computes up to there.
 use mathlib.Core.Path.{sym, ◌∙◌}
-use borrow.Author.Rules.{rules}
 use borrow.Author.Tests.{eq-eqb, ne_eqb}
 use Rattle.region.proofs.Groups.{alone}
 use Rattle.step.specs.Questions.{ask, first_no, volume_and_region_match, generation_matches}

@@ -18,17 +18,14 @@ module _ (start length end : ℕ) where
   past : end < start + length → sum-within start length end ≡ false
   past l = ap (λ (t : Bool). ltb (start + length) (2 ^ 64) && t) (lt-leb (start + length) end l) ∙ and-false (ltb (start + length) (2 ^ 64))
 
-
   inside : end < 2 ^ 64 → start + length ≤ end → sum-within start length end ≡ true
   inside small l = ap₂ (λ (t u : Bool). t && u) (lt-ltb (start + length) (2 ^ 64) (omega arith)) (le-leb (start + length) end l)
-
 
   no-sum : end < 2 ^ 64 → start ≤ end → leb length (end - start) ≡ sum-within start length end
   no-sum small l =
       ⊎_elim (λ (t : leb length (end - start) ≡ true). t ∙ sym (inside small (omega (arith, leb-true length (end - start) t))))
       (λ (f : leb length (end - start) ≡ false). f ∙ sym (past (omega (arith, leb-false length (end - start) f))))
       (true_or_false (leb length (end - start)))
-
 
 pub returns-then-data-start : goal.returns-then-data-start
 returns-then-data-start c = let a = c.args in sym (past a.start.0 a.length a.«data» (omega arith))

@@ -1,7 +1,6 @@
 -- `runner::answer` meets its contract: each arm knows what the line asks for (Lines).
 use Prim.Native.Nat.{zero-le}
 use Rattle.runner.proofs.Lines.{passed_over, is_bad, is_call}
-use borrow.Author.Rules.{rules}
 use Rattle.runner.proofs.answer.Goals as goal
 
 pub returns-in-Nothing : goal.returns-in-Nothing

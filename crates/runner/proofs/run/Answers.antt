@@ -1,5 +1,4 @@
 -- `runner::run` meets its contract: the call is made, and its reply printed.
-use borrow.Author.Rules.{rules}
 use Rattle.runner.proofs.run.Goals as goal
 
 pub returns : goal.returns

@@ -1,6 +1,5 @@
 -- `session::line` meets its contract: each arm knows the stage (Stages).
 use native.Mathlib.Omega.{arith}
-use borrow.Author.Rules.{rules}
 use Rattle.session.proofs.Stages.{at_before, at_planned, at_table, at_refused, at_over}
 use Rattle.session.proofs.line.Goals as goal
 

@@ -1,6 +1,5 @@
 -- `settle::error_of` meets its contract: each arm knows which answer it is, and there the definition computes.
 use Rattle.step.specs.Rules.{error_of}
-use Rattle.std.proofs.Common.{rules}
 use Rattle.settle.proofs.error_of.Goals as goal
 
 pub returns-in-Count : goal.returns-in-Count

@@ -1,5 +1,5 @@
 -- `settle::turn_back` meets its contract: the turn is by what is left where the buffer came back, and by nothing else.
-use Rattle.std.proofs.Common.{refl, rules}
+use Rattle.std.proofs.Common.{refl}
 use Rattle.iobuf.proofs.Laws.{turned_none}
 use Rattle.step.specs.Rules.{turned_back}
 use Rattle.settle.specs.Finished.{turned_by}

@@ -1,6 +1,6 @@
 -- `call` meets its contract: `touch` ensures it of any rows among which the row found is the one to touch, and the lent ones are such rows. Then the
 -- rows, claimed and released, and the counts, accepted and released, are put in place.
-use Rattle.std.proofs.Common.{◌≡◌, ℕ, List, sym, refl, ap, ◌∙◌, subst, length, set, slice_index_or}
+use Rattle.std.proofs.Common.{◌≡◌, ℕ, List, sym, refl, ap, ◌∙◌, subst, set, slice_index_or}
 use Rattle.model.specs.declared.Counts.{Counts}
 use Rattle.model.specs.declared.Row.{Row}
 use Rattle.model.specs.State.{freed}

@@ -1,5 +1,5 @@
 -- `abort::abort` meets its contract: each part is what a callee ensures.
-use Rattle.std.proofs.Common.{false, refl, rules}
+use Rattle.std.proofs.Common.{false, refl}
 use Rattle.optable.specs.declared.Frees.TheVariants.{Rejected as oneRejected}
 use Rattle.step.specs.Step.{row_of}
 use Rattle.settle.specs.Finished.{plan_with}

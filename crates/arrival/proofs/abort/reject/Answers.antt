@@ -1,6 +1,5 @@
 -- `abort::reject` meets its contract: each arm knows the kind.
 use Rattle.step.specs.Rules.{first_of, last_of, range_of, op_of}
-use Rattle.std.proofs.Common.{rules}
 use Rattle.arrival.proofs.abort.reject.Goals as goal
 
 pub returns-in-Page : goal.returns-in-Page

@@ -1,7 +1,6 @@
 -- `abort::rejection` meets its contract: each arm knows what is awaited.
 use Rattle.arrival.proofs.Rejecting.{not_piece}
 use Rattle.step.specs.Step.{rejection}
-use Rattle.std.proofs.Common.{rules}
 use Rattle.arrival.proofs.abort.rejection.Goals as goal
 
 pub returns-in-Piece : goal.returns-in-Piece

@@ -1,5 +1,5 @@
 -- `advance::ask_piece` meets its contract: the piece is the one found.
-use Rattle.std.proofs.Common.{refl, rules}
+use Rattle.std.proofs.Common.{refl}
 use Rattle.arrival.specs.Carried.{AsksFor}
 use Rattle.arrival.proofs.advance.ask_piece.Goals as goal
 

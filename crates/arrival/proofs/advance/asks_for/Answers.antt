@@ -1,5 +1,5 @@
 -- `advance::asks_for` meets its contract: each arm knows what is awaited.
-use Rattle.std.proofs.Common.{refl, rules}
+use Rattle.std.proofs.Common.{refl}
 use Rattle.arrival.specs.Carried.{AsksFor}
 use Rattle.arrival.proofs.advance.asks_for.Goals as goal
 

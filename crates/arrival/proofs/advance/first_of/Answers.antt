@@ -1,6 +1,5 @@
 -- `advance::first_of` meets its contract: each arm knows the kind.
 use Rattle.step.specs.Rules.{first_of}
-use Rattle.std.proofs.Common.{rules}
 use Rattle.arrival.proofs.advance.first_of.Goals as goal
 
 pub returns-in-Page : goal.returns-in-Page

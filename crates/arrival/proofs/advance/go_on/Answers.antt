@@ -1,5 +1,5 @@
 -- `advance::go_on` meets its contract: its parts are what the callees ensure.
-use Rattle.std.proofs.Common.{false, rules}
+use Rattle.std.proofs.Common.{false}
 use Rattle.optable.specs.declared.Frees.TheVariants.{Nothing as none}
 use Rattle.arrival.specs.Carried.{TouchedBy}
 use Rattle.arrival.proofs.advance.go_on.Goals as goal

@@ -1,6 +1,5 @@
 -- `advance::piece_of` meets its contract: the position and what is left are what the callees ensure.
 use Rattle.regionmap.specs.Found.{wrap64}
-use Rattle.std.proofs.Common.{rules}
 use Rattle.arrival.proofs.advance.piece_of.Goals as goal
 
 pub returns : goal.returns

@@ -1,6 +1,5 @@
 -- `advance::turn` meets its contract: it is iobuf's turn.
 use Rattle.arrival.specs.Carried.{turned_pool}
-use Rattle.std.proofs.Common.{rules}
 use Rattle.arrival.proofs.advance.turn.Goals as goal
 
 pub returns : goal.returns

@@ -1,6 +1,5 @@
 -- `carry::carry` meets its contract: each arm knows what becomes of the operation (Carrying).
 use Rattle.arrival.proofs.Carrying.{known_carried, away_carried, next_carried, rejected_carried}
-use Rattle.std.proofs.Common.{rules}
 use Rattle.arrival.proofs.carry.carry.Goals as goal
 
 pub returns-in-Away : goal.returns-in-Away

@@ -1,6 +1,5 @@
 -- `release::complete` meets its contract: each part is what a callee ensures.
 use Rattle.step.specs.Step.{completion_of}
-use Rattle.std.proofs.Common.{rules}
 use Rattle.arrival.proofs.release.complete.Goals as goal
 
 pub returns : goal.returns

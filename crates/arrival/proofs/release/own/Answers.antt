@@ -1,5 +1,5 @@
 -- `release::own` meets its contract: a place that is not there changes nothing.
-use Rattle.std.proofs.Common.{ℕ, set, sym, ap, arith, rules}
+use Rattle.std.proofs.Common.{ℕ, set, sym, ap, arith}
 use lib.Seq.{set_out}
 use Rattle.arrival.specs.Carried.{owner_word}
 use Rattle.arrival.proofs.release.own.Goals as goal

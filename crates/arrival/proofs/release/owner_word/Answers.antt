@@ -1,6 +1,5 @@
 -- `release::owner_word` meets its contract: each arm knows whether the buffer came back.
 use Rattle.arrival.specs.Carried.{owner_word}
-use Rattle.std.proofs.Common.{rules}
 use Rattle.arrival.proofs.release.owner_word.Goals as goal
 
 pub returns-in-Back : goal.returns-in-Back

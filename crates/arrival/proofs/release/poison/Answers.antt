@@ -1,5 +1,5 @@
 -- `release::poison` meets its contract: each arm knows whether there is a cause.
-use Rattle.std.proofs.Common.{sym, ap, ◌∙◌, rules}
+use Rattle.std.proofs.Common.{sym, ap, ◌∙◌}
 use Rattle.domain.specs.declared.Poisoned.{Poisoned}
 use Rattle.arrival.specs.Carried.{poisoned_by}
 use Rattle.arrival.proofs.release.poison.Goals as goal

@@ -1,5 +1,5 @@
 -- `release::push` meets its contract: with no row out nothing is stored, and a place that is not there changes nothing.
-use Rattle.std.proofs.Common.{◌-◌, sym, ◌∙◌, arith, rules}
+use Rattle.std.proofs.Common.{◌-◌, sym, ◌∙◌, arith}
 use lib.Seq.{set_out}
 use Rattle.arrival.proofs.Releasing.{pushed_none, pushed_on}
 use Rattle.arrival.proofs.release.push.Goals as goal

@@ -1,5 +1,5 @@
 -- `release::release` meets its contract: each part is what a callee ensures.
-use Rattle.std.proofs.Common.{ap, ◌∙◌, rules}
+use Rattle.std.proofs.Common.{ap, ◌∙◌}
 use Rattle.model.specs.State.{freed}
 use Rattle.step.specs.Step.{row_of}
 use Rattle.arrival.proofs.Releasing.{ended_carried}

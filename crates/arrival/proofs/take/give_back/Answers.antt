@@ -1,5 +1,5 @@
 -- `take::give_back` meets its contract: each arm knows the case, and where there is no such buffer storing its owner changes nothing.
-use Rattle.std.proofs.Common.{sym, ap, ◌∙◌, arith, rules}
+use Rattle.std.proofs.Common.{sym, ap, ◌∙◌, arith}
 use lib.Seq.{set_out}
 use Rattle.completion.specs.declared.Buffer.{Buffer}
 use Rattle.arrival.specs.Taking.{back_in}

@@ -8,5 +8,8 @@ returns-then-counts-eq0 c = record { takes_to = none_taken _ _ _ _ _ (search rul
 
 pub returns : goal.returns
 returns c =
-    let a = c.args in record { takes_to = one_taken_lem a.row a.counts a.store.now a.ready.now a.owners.now c.if-counts-eq0.false c.settings-o.result c.settings-o.ensures
-          c.oldest-c.result c.oldest-c.ensures _ _ c.pop.ensures c.give_back.ensures; no_row = refl }
+    let a = c.args in record {
+      takes_to = one_taken_lem a.row a.counts a.store.now a.ready.now a.owners.now c.if-counts-eq0.false c.settings-o.result c.settings-o.ensures
+          c.oldest-c.result c.oldest-c.ensures _ _ c.pop.ensures c.give_back.ensures;
+      no_row = refl;
+    }

@@ -1,6 +1,5 @@
 -- `underway::finished` meets its contract: by whether the tag is known, with what its callees found.
-use Rattle.std.proofs.Common.{sym, refl, ◌∙◌, rules}
-use borrow.Author.Tests.{not-true, not-false}
+use Rattle.std.proofs.Common.{sym, refl, ◌∙◌}
 use Rattle.layout.proofs.Tests.{not_both}
 use Rattle.arrival.proofs.underway.finished.Goals as goal
 

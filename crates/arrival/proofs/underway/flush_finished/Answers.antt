@@ -1,6 +1,5 @@
 -- `underway::flush_finished` meets its contract: by whether the tag is known.
-use Rattle.std.proofs.Common.{sym, refl, ◌∙◌, rules}
-use borrow.Author.Tests.{not-true, not-false}
+use Rattle.std.proofs.Common.{sym, refl, ◌∙◌}
 use Rattle.layout.proofs.Tests.{not_both}
 use Rattle.arrival.proofs.underway.flush_finished.Goals as goal
 

@@ -1,5 +1,5 @@
 -- `underway::known` meets its contract: within the depth the name decides.
-use Rattle.std.proofs.Common.{Bool, ◌&&◌, sym, ap, ◌∙◌, rules, le-ltb, lt-ltb}
+use Rattle.std.proofs.Common.{Bool, ◌&&◌, sym, ap, ◌∙◌, le-ltb, lt-ltb}
 use Rattle.step.specs.Step.{row_of}
 use Rattle.arrival.specs.UnderWay.{known_as}
 use Rattle.step.specs.Step.{names}

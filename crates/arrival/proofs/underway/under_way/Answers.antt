@@ -1,6 +1,5 @@
 -- `underway::under_way` meets its contract: each arm knows whether the row awaits a piece.
 use Rattle.arrival.proofs.Naming.{piece_under_way, none_under_way}
-use Rattle.std.proofs.Common.{rules}
 use Rattle.arrival.proofs.underway.under_way.Goals as goal
 
 pub returns-in-Piece : goal.returns-in-Piece

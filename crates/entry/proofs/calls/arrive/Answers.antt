@@ -2,9 +2,7 @@
 use mathlib.Core.Path.{ap, ◌∙◌}
 use Rattle.model.specs.declared.Call.{Call}
 use Rattle.optable.specs.Called.{place_of}
-use borrow.Author.Tests.{not-true, not-false}
 use Rattle.entry.proofs.Each.{unlike, armed, not_arrived}
-use borrow.Author.Rules.{rules}
 use Rattle.entry.proofs.calls.arrive.Goals as goal
 
 pub returns-then-not-fits : goal.returns-then-not-fits

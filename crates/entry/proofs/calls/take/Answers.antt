@@ -4,9 +4,7 @@ use Prim.Native.Nat.{◌/◌}
 use lib.ListN.{length}
 use Rattle.model.specs.declared.Call.TheVariants.{Take}
 use Rattle.optable.specs.Called.{place_of}
-use borrow.Author.Tests.{not-true, not-false}
 use Rattle.entry.proofs.Each.{unlike, carried_without}
-use borrow.Author.Rules.{rules}
 use Rattle.entry.proofs.calls.take.Goals as goal
 
 pub returns-then-not-fits : goal.returns-then-not-fits

@@ -1,6 +1,5 @@
 -- `settings::mark` meets its contract: each arm is what its function ensures.
 use Rattle.entry.proofs.Each.{known}
-use borrow.Author.Rules.{rules}
 use Rattle.entry.proofs.settings.mark.Goals as goal
 
 pub returns-in-Gate : goal.returns-in-Gate

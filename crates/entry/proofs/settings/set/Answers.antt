@@ -1,6 +1,4 @@
 -- `settings::set` meets its contract: the call is its arm's (Each).
-use borrow.Author.Tests.{not-true, not-false}
-use borrow.Author.Rules.{rules}
 use Rattle.entry.proofs.Each.{unlike, marked, not_set, no_place}
 use Rattle.entry.proofs.settings.set.Goals as goal
 

@@ -1,6 +1,5 @@
 -- `wholerows::fits` meets its contract.
 use Rattle.entry.proofs.Fitting.{whole_fits, cut_unfit}
-use borrow.Author.Rules.{rules}
 use Rattle.entry.proofs.wholerows.fits.Goals as goal
 
 pub returns-then-rows-eq0 : goal.returns-then-rows-eq0

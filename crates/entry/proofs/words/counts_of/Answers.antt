@@ -1,7 +1,6 @@
 -- `words::counts_of` meets its contract: each word is read where the counts have it, and they are three.
 use mathlib.Core.Path.{refl}
 use Rattle.entry.specs.WordCalls.{counts_in}
-use borrow.Author.Rules.{rules}
 use Rattle.entry.proofs.words.counts_of.Goals as goal
 
 pub returns : goal.returns

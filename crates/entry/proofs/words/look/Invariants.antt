@@ -1,13 +1,9 @@
 -- `words::look` meets its contract. The loop's invariant: what is found in the rows from the index on (lookup's Turning).
-use mathlib.Core.Path.{◌≡◌, sym, ap, ap₂, ◌∙◌, subst}
-use Prim.Native.Nat.{ℕ, ◌+◌, ◌-◌, ◌/◌, ◌≤◌, ◌<◌, min}
-use native.Mathlib.Omega.{arith}
+use mathlib.Core.Path.{◌≡◌}
+use Prim.Native.Nat.{◌/◌, ◌≤◌, min}
 use lib.ListN.{length}
-use borrow.Author.Rules.{rules}
-use Rattle.optable.specs.Looked.{seen_by}
-use Rattle.optable.proofs.Turning.{found, none_found, one_more_lem}
+use Rattle.optable.proofs.Turning.{found}
 use Rattle.abi.specs.RowWords.{rows_in}
-use Rattle.abi.proofs.Laws.{count}
 use Rattle.entry.proofs.words.look.Given as goal
 
 abbrev pub invariant-loop-i : goal.invariant-loop-i

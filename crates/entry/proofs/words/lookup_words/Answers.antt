@@ -9,7 +9,6 @@ use Rattle.optable.proofs.Looking.{looks_as}
 use Rattle.abi.specs.RowWords.{rows_in}
 use Rattle.abi.proofs.Laws.{count}
 use Rattle.entry.specs.WordCalls.{lent_in}
-use borrow.Author.Rules.{rules}
 use Rattle.entry.proofs.words.lookup_words.Goals as goal
 
 pub returns : goal.returns

@@ -1,6 +1,5 @@
 -- `words::open_words` meets its contract, from what its parts ensure (Opening).
 use Rattle.entry.proofs.Opening.{opens_words}
-use borrow.Author.Rules.{rules}
 use Rattle.entry.proofs.words.open_words.Goals as goal
 
 pub returns : goal.returns

@@ -1,7 +1,6 @@
 -- `words::put_counted` meets its contract: turned away, nothing is put; else the counts are.
 use mathlib.Core.Path.{refl, sym, ◌∙◌}
 use Rattle.layout.proofs.Tests.{not_both}
-use borrow.Author.Rules.{rules}
 use Rattle.entry.proofs.words.put_counted.Goals as goal
 
 pub returns-then-away : goal.returns-then-away

@@ -2,7 +2,6 @@
 use mathlib.Core.Path.{ap, ◌∙◌}
 use Rattle.optable.specs.Counted.{released_by}
 use Rattle.entry.specs.WordCalls.{count_words}
-use borrow.Author.Rules.{rules}
 use Rattle.entry.proofs.words.put_counts.Goals as goal
 
 pub returns : goal.returns

@@ -3,7 +3,6 @@ use mathlib.Core.Path.{refl, sym, ap, ◌∙◌}
 use lib.ListN.{length, get_or}
 use Rattle.layout.proofs.Tests.{not_both}
 use Rattle.abi.proofs.Laws.{put_long, put_others}
-use borrow.Author.Rules.{rules}
 use Rattle.entry.proofs.words.put_touched.Goals as goal
 
 pub returns-then-away : goal.returns-then-away

@@ -1,18 +1,14 @@
-use mathlib.Core.Path.{◌≡◌, refl, sym, ap, ◌∙◌, subst}
-use mathlib.Core.Bool.{true, false}
-use mathlib.Core.List.{List}
-use Prim.Native.Nat.{ℕ, suc, ◌+◌, ◌-◌, ◌≤◌, ◌<◌, min}
+use mathlib.Core.Path.{◌≡◌, refl, sym, ap, ◌∙◌}
+use Prim.Native.Nat.{ℕ, ◌≤◌, ◌<◌}
 use native.Mathlib.Numerals.{add-one}
 use native.Mathlib.Omega.{arith}
-use lib.ListN.{length, get_or, take, length-take}
+use lib.ListN.{length, take, length-take}
 use lib.Seq.{take_all, get_or-take}
-use borrow.Author.Rules.{rules}
-use Rattle.model.specs.declared.Counts.{Counts}
 use Rattle.model.specs.State.{freed}
 use Rattle.model.specs.Memory.{settings_in, state_in}
 use Rattle.optable.specs.Called.{lent_of}
-use Rattle.hostfill.specs.MayFill.{loose_row, any_loose, Open}
-use Rattle.hostfill.proofs.Rows.{none_first, one_more_lem, hit}
+use Rattle.hostfill.specs.MayFill.{loose_row, any_loose}
+use Rattle.hostfill.proofs.Rows.{one_more_lem, hit}
 use Rattle.hostfill.proofs.mayfill.any_loose.Goals as goal
 
 pub loop-i-init : goal.loop-i-init

@@ -1,19 +1,13 @@
 -- `mayfill::any_loose` meets its contract: before each turn no row that was passed is loose. The measure is how many rows are left.
-use mathlib.Core.Path.{◌≡◌, refl, sym, ap, ◌∙◌, subst}
-use mathlib.Core.Bool.{true, false}
+use mathlib.Core.Path.{◌≡◌}
+use mathlib.Core.Bool.{false}
 use mathlib.Core.List.{List}
-use Prim.Native.Nat.{ℕ, suc, ◌+◌, ◌-◌, ◌≤◌, ◌<◌, min}
-use native.Mathlib.Numerals.{add-one}
-use native.Mathlib.Omega.{arith}
-use lib.ListN.{length, get_or, take, length-take}
-use lib.Seq.{take_all, get_or-take}
-use borrow.Author.Rules.{rules}
+use Prim.Native.Nat.{ℕ, ◌-◌, ◌≤◌, min}
+use lib.ListN.{take}
 use Rattle.model.specs.declared.Counts.{Counts}
-use Rattle.model.specs.State.{freed}
 use Rattle.model.specs.Memory.{settings_in, state_in}
 use Rattle.optable.specs.Called.{lent_of}
-use Rattle.hostfill.specs.MayFill.{loose_row, any_loose, Open}
-use Rattle.hostfill.proofs.Rows.{none_first, one_more_lem, hit}
+use Rattle.hostfill.specs.MayFill.{any_loose, Open}
 use Rattle.hostfill.proofs.mayfill.any_loose.Given as goal
 
 abbrev pub invariant-loop-i : goal.invariant-loop-i

@@ -3,7 +3,6 @@ use mathlib.Core.Path.{◌≡◌}
 use native.Mathlib.Omega.{arith}
 use Rattle.arrival.proofs.Raw.{row_fits}
 use Rattle.hostfill.proofs.Loose.{other_buffer, no_read, no_piece, piece_row}
-use borrow.Author.Rules.{rules}
 use Rattle.hostfill.proofs.mayfill.loose_row.Goals as goal
 
 pub returns-then-row-b : goal.returns-then-row-b

@@ -1,16 +1,14 @@
 -- `mayfill::may_fill` meets its contract: by the tests that it makes (May).
-use mathlib.Core.Path.{◌≡◌, refl, sym, ap, ◌∙◌}
-use mathlib.Core.Bool.{Bool, true, false}
+use mathlib.Core.Path.{◌≡◌, refl, sym, ◌∙◌}
+use mathlib.Core.Bool.{Bool}
 use mathlib.Core.List.{List}
-use Prim.Native.Nat.{ℕ, ◌+◌, ◌≤◌}
+use Prim.Native.Nat.{ℕ}
 use native.Mathlib.Omega.{arith}
 use lib.ListN.{get_or}
-use borrow.Author.Tests.{not-true, not-false}
 use Rattle.layout.proofs.Tests.{not_both}
 use Rattle.model.specs.Memory.{settings_in}
 use Rattle.hostfill.specs.Writes.{in_pool}
 use Rattle.hostfill.proofs.May.{in_capacity, not_inside, is_held, by_rows}
-use borrow.Author.Rules.{rules}
 use Rattle.hostfill.proofs.mayfill.may_fill.Goals as goal
 
 -- what the words hold is what the pool is asked by

@@ -1,6 +1,5 @@
 -- `mayfill::read_covers` meets its contract: each arm knows the kind.
 use Rattle.hostfill.proofs.Loose.{page_covers, read_covers}
-use borrow.Author.Rules.{rules}
 use Rattle.hostfill.proofs.mayfill.read_covers.Goals as goal
 
 pub returns-in-Page : goal.returns-in-Page

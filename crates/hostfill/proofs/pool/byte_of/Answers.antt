@@ -1,7 +1,5 @@
 -- `pool::byte_of` meets its contract: only the low bytes of the seed and of i count.
 use Rattle.hostfill.proofs.Bytes.{low_byte}
-use native.Mathlib.Omega.{arith}
-use borrow.Author.Rules.{rules}
 use Rattle.hostfill.proofs.pool.byte_of.Goals as goal
 
 pub returns : goal.returns

@@ -1,11 +1,10 @@
 use mathlib.Core.Path.{◌≡◌, refl, sym, ap, ◌∙◌}
 use mathlib.Core.List.{List}
-use Prim.Native.Nat.{ℕ, ◌+◌, ◌-◌, ◌≤◌}
+use Prim.Native.Nat.{ℕ, ◌+◌}
 use native.Mathlib.Numerals.{add-one}
 use native.Mathlib.Omega.{arith}
-use lib.ListN.{length, get_or, set, length-set}
-use lib.Seq.{take_all, paste, paste-zero, paste-suc}
-use borrow.Author.Rules.{rules}
+use lib.ListN.{get_or, set, length-set}
+use lib.Seq.{take_all, paste-zero, paste-suc}
 use Rattle.hostfill.specs.Writes.{fill_bytes, filled}
 use Rattle.hostfill.proofs.Bytes.{as_many, byte_first}
 use Rattle.hostfill.proofs.pool.fill.Goals as goal

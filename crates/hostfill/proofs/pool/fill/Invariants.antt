@@ -1,14 +1,9 @@
 -- `pool::fill` meets its contract: before each turn the pool is what it was with the first i bytes laid over it from `at` on. The measure is how many are left.
-use mathlib.Core.Path.{◌≡◌, refl, sym, ap, ◌∙◌}
-use mathlib.Core.List.{List}
-use Prim.Native.Nat.{ℕ, ◌+◌, ◌-◌, ◌≤◌}
-use native.Mathlib.Numerals.{add-one}
-use native.Mathlib.Omega.{arith}
-use lib.ListN.{length, get_or, set, length-set}
-use lib.Seq.{take_all, paste, paste-zero, paste-suc}
-use borrow.Author.Rules.{rules}
-use Rattle.hostfill.specs.Writes.{fill_bytes, filled}
-use Rattle.hostfill.proofs.Bytes.{as_many, byte_first}
+use mathlib.Core.Path.{◌≡◌}
+use Prim.Native.Nat.{◌-◌, ◌≤◌}
+use lib.ListN.{length}
+use lib.Seq.{paste}
+use Rattle.hostfill.specs.Writes.{fill_bytes}
 use Rattle.hostfill.proofs.pool.fill.Given as goal
 
 abbrev pub invariant-loop-i : goal.invariant-loop-i

@@ -6,7 +6,6 @@ use native.Mathlib.Omega.{arith}
 use borrow.Author.Tests.{lt-ltb, le-ltb, le-leb, lt-leb}
 use Rattle.hostfill.specs.Writes.{in_pool}
 use Rattle.hostfill.proofs.Bytes.{by_quotient}
-use borrow.Author.Rules.{rules}
 use Rattle.hostfill.proofs.pool.in_pool.Goals as goal
 
 pub returns-then-buffers-b : goal.returns-then-buffers-b

@@ -1,13 +1,8 @@
 -- `pool::sum` meets its contract: before each turn the sum of what is left, from the two numbers on, is the whole's. The measure is what is left of the bytes.
-use mathlib.Core.Path.{◌≡◌, refl, sym, ap, ◌∙◌}
-use Prim.Native.Nat.{ℕ, ◌-◌, ◌≤◌, ◌<◌}
-use native.Mathlib.Numerals.{add-one}
-use native.Mathlib.Nat.{mod-lt}
-use native.Mathlib.Omega.{arith}
+use mathlib.Core.Path.{◌≡◌}
+use Prim.Native.Nat.{◌-◌, ◌≤◌, ◌<◌}
 use lib.ListN.{length, drop}
-use lib.Seq.{drop-length}
 use Rattle.hostfill.specs.Writes.{sum_from, sum_of}
-use Rattle.hostfill.proofs.Bytes.{one_more_lem}
 use Rattle.hostfill.proofs.pool.sum.Given as goal
 
 abbrev pub invariant-loop-i : goal.invariant-loop-i

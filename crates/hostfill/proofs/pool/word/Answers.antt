@@ -1,7 +1,6 @@
 -- `pool::word` meets its contract: behind the last word there is 0.
 use mathlib.Core.Path.{sym}
 use lib.ListN.{get_or-eq_default}
-use borrow.Author.Rules.{rules}
 use Rattle.hostfill.proofs.pool.word.Goals as goal
 
 pub returns : goal.returns

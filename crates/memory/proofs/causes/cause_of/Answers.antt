@@ -1,6 +1,5 @@
 -- `causes::cause_of` meets its contract: the parts are what op_of and error_of ensure.
 use Rattle.model.specs.Memory.{cause_in}
-use borrow.Author.Rules.{rules}
 use Rattle.memory.proofs.causes.cause_of.Goals as goal
 
 pub returns : goal.returns

@@ -2,7 +2,6 @@
 use borrow.Author.Tests.{ne_eqb}
 use Rattle.layout.specs.Pick.{pick}
 use Rattle.model.specs.Memory.{flag, error_in}
-use borrow.Author.Rules.{rules}
 use Rattle.memory.proofs.causes.error_of.Goals as goal
 
 pub returns-then-has-eq0 : goal.returns-then-has-eq0

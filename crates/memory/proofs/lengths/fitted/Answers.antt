@@ -12,7 +12,6 @@ use Rattle.model.specs.declared.Lengths.{Lengths}
 use Rattle.model.specs.declared.Opening.{Opening}
 use Rattle.model.specs.Memory.{same_lengths, settings_in}
 use Rattle.memory.specs.Lengths.{lengths_with, fit_of}
-use borrow.Author.Rules.{rules}
 use Rattle.memory.proofs.lengths.fitted.Goals as goal
 
 enough-words : (l : Lengths) (s : List ℕ) → same_lengths l s ≡ true → 48 ≤ length s

@@ -1,7 +1,6 @@
 -- `liveregion::region_at` meets its contract: each word is read where the region's parts have it (Places); where the contract asks, none is missing.
 use mathlib.Core.Path.{sym}
 use native.Mathlib.Omega.{arith}
-use borrow.Author.Rules.{rules}
 use Rattle.model.specs.Memory.{flag}
 use Rattle.memory.proofs.Places.{live_at_lem}
 use Rattle.memory.proofs.liveregion.region_at.Goals as goal

@@ -6,7 +6,6 @@ use native.Mathlib.Omega.{arith}
 use lib.ListN.{take, drop}
 use Rattle.regionmap.specs.Words.{map_in}
 use Rattle.regionmap.specs.Found.{HoldsMap, piece_found}
-use borrow.Author.Rules.{rules}
 use Rattle.memory.proofs.piece.first_piece.Goals as goal
 
 pub returns-then-handle-ge8 : goal.returns-then-handle-ge8

@@ -2,7 +2,6 @@
 use mathlib.Core.Path.{refl}
 use native.Mathlib.Omega.{arith}
 use Rattle.model.specs.Memory.{settings_in, flag}
-use borrow.Author.Rules.{rules}
 use Rattle.memory.proofs.settings.settings.Goals as goal
 
 pub returns-then-store-lt-HEAD : goal.returns-then-store-lt-HEAD

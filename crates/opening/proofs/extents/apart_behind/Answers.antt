@@ -1,11 +1,10 @@
-use mathlib.Core.Path.{◌≡◌, refl, sym, ap₂, ◌∙◌}
+use mathlib.Core.Path.{refl, sym, ap₂, ◌∙◌}
 use mathlib.Core.List.{List}
-use Prim.Native.Nat.{◌+◌, ◌-◌, ◌≤◌, ◌<◌}
+use Prim.Native.Nat.{◌<◌}
 use native.Mathlib.Omega.{arith}
 use borrow.Author.Rules.{rules}
-use borrow.Author.Tests.{not-true, not-false}
-use lib.ListN.{length, get_or, drop}
-use Rattle.regionmap.specs.Map.{Extent, apart, apart_from}
+use lib.ListN.{length, get_or}
+use Rattle.regionmap.specs.Map.{Extent, apart}
 use Rattle.opening.proofs.Walk.{stops, goes, ends}
 use Rattle.opening.proofs.CardRuns.{no_bytes, row, apart_from_lem}
 use Rattle.opening.proofs.extents.apart_behind.Goals as goal

@@ -1,14 +1,9 @@
 -- `extents::apart_behind` meets its contract. The loop's invariant: whether the k-th run is apart from those left is whether it is from all behind it.
-use mathlib.Core.Path.{◌≡◌, refl, sym, ap₂, ◌∙◌}
-use mathlib.Core.List.{List}
-use Prim.Native.Nat.{◌+◌, ◌-◌, ◌≤◌, ◌<◌}
-use native.Mathlib.Omega.{arith}
-use borrow.Author.Rules.{rules}
-use borrow.Author.Tests.{not-true, not-false}
-use lib.ListN.{length, get_or, drop}
-use Rattle.regionmap.specs.Map.{Extent, apart, apart_from}
-use Rattle.opening.proofs.Walk.{stops, goes, ends}
-use Rattle.opening.proofs.CardRuns.{no_bytes, row, apart_from_lem}
+use mathlib.Core.Path.{◌≡◌}
+use Prim.Native.Nat.{◌+◌, ◌-◌, ◌≤◌}
+use lib.ListN.{get_or, drop}
+use Rattle.regionmap.specs.Map.{apart_from}
+use Rattle.opening.proofs.CardRuns.{no_bytes, row}
 use Rattle.opening.proofs.extents.apart_behind.Given as goal
 
 abbrev pub invariant-loop-i : goal.invariant-loop-i

@@ -1,11 +1,10 @@
-use mathlib.Core.Path.{◌≡◌, refl, sym, ◌∙◌}
+use mathlib.Core.Path.{refl, sym, ◌∙◌}
 use mathlib.Core.List.{List}
-use Prim.Native.Nat.{◌-◌, ◌≤◌, ◌<◌}
+use Prim.Native.Nat.{◌<◌}
 use native.Mathlib.Omega.{arith}
 use borrow.Author.Rules.{rules}
-use borrow.Author.Tests.{not-true, not-false}
-use lib.ListN.{length, drop}
-use Rattle.regionmap.specs.Map.{Extent, all_apart}
+use lib.ListN.{length}
+use Rattle.regionmap.specs.Map.{Extent}
 use Rattle.opening.proofs.Walk.{stops, goes, ends}
 use Rattle.opening.proofs.CardRuns.{row, all_apart_lem}
 use Rattle.opening.proofs.extents.apart_rule.Goals as goal

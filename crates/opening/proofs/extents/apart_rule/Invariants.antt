@@ -1,14 +1,9 @@
 -- `extents::apart_rule` meets its contract. The loop's invariant: whether the runs left are apart is whether all are.
-use mathlib.Core.Path.{◌≡◌, refl, sym, ◌∙◌}
-use mathlib.Core.List.{List}
-use Prim.Native.Nat.{◌-◌, ◌≤◌, ◌<◌}
-use native.Mathlib.Omega.{arith}
-use borrow.Author.Rules.{rules}
-use borrow.Author.Tests.{not-true, not-false}
-use lib.ListN.{length, drop}
-use Rattle.regionmap.specs.Map.{Extent, all_apart}
-use Rattle.opening.proofs.Walk.{stops, goes, ends}
-use Rattle.opening.proofs.CardRuns.{row, all_apart_lem}
+use mathlib.Core.Path.{◌≡◌}
+use Prim.Native.Nat.{◌-◌, ◌≤◌}
+use lib.ListN.{drop}
+use Rattle.regionmap.specs.Map.{all_apart}
+use Rattle.opening.proofs.CardRuns.{row}
 use Rattle.opening.proofs.extents.apart_rule.Given as goal
 
 abbrev pub invariant-loop-k : goal.invariant-loop-k

@@ -1,11 +1,10 @@
-use mathlib.Core.Path.{◌≡◌, ap, ◌∙◌}
-use Prim.Native.Nat.{◌+◌, ◌-◌, ◌*◌, ◌≤◌}
+use mathlib.Core.Path.{ap, ◌∙◌}
+use Prim.Native.Nat.{◌+◌, ◌*◌, ◌≤◌}
 use native.Mathlib.Omega.{arith}
-use borrow.Author.Rules.{rules}
 use lib.ListN.{length, get_or, length-append}
 use Rattle.regionmap.specs.Map.{extents}
 use Rattle.regionmap.specs.Words.{map_in}
-use Rattle.opening.proofs.CardRuns.{map_words, row, row_from, row_step, row_end, row_all, region_count}
+use Rattle.opening.proofs.CardRuns.{map_words, row_from, row_step, row_end, row_all, region_count}
 use Rattle.opening.proofs.extents.run_count.Goals as goal
 use Rattle.opening.proofs.extents.run_count.Goals.{After-further_runs}
 

@@ -1,12 +1,8 @@
 -- `extents::run_count` meets its contract. The loop's invariant: the count so far and the runs of the regions left are all runs.
-use mathlib.Core.Path.{◌≡◌, ap, ◌∙◌}
+use mathlib.Core.Path.{◌≡◌}
 use Prim.Native.Nat.{◌+◌, ◌-◌, ◌*◌, ◌≤◌}
-use native.Mathlib.Omega.{arith}
-use borrow.Author.Rules.{rules}
-use lib.ListN.{length, get_or, length-append}
-use Rattle.regionmap.specs.Map.{extents}
-use Rattle.regionmap.specs.Words.{map_in}
-use Rattle.opening.proofs.CardRuns.{map_words, row, row_from, row_step, row_end, row_all, region_count}
+use lib.ListN.{length}
+use Rattle.opening.proofs.CardRuns.{row, row_from}
 use Rattle.opening.proofs.extents.run_count.Given as goal
 
 abbrev pub invariant-loop-h : goal.invariant-loop-h

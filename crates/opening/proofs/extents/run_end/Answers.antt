@@ -1,5 +1,4 @@
 -- `extents::run_end` meets its contract: a branch for each side of `pick`.
-use borrow.Author.Rules.{rules}
 use borrow.Author.Tests.{lt-ltb, le-ltb}
 use Rattle.layout.specs.Pick.{pick}
 use Rattle.opening.proofs.extents.run_end.Goals as goal

@@ -1,5 +1,4 @@
 -- `extents::run_of_map` meets its contract: the j-th of a map's extents is made of the words that the code reads.
-use borrow.Author.Rules.{rules}
 use Rattle.opening.proofs.CardRuns.{first_at, further_at}
 use Rattle.opening.proofs.extents.run_of_map.Goals as goal
 

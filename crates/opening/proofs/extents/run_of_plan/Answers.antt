@@ -5,7 +5,7 @@ use native.Mathlib.Omega.{arith}
 use borrow.Author.Rules.{rules}
 use lib.ListN.{get_or}
 use Rattle.regionmap.specs.Map.{Extent}
-use Rattle.opening.proofs.CardRuns.{no_bytes, row, row_from, row_end, row_all, row_here, row_behind}
+use Rattle.opening.proofs.CardRuns.{no_bytes, row_from, row_end, row_all, row_here, row_behind}
 use Rattle.opening.proofs.extents.run_of_plan.Goals as goal
 use Rattle.opening.proofs.extents.run_of_plan.Goals.{After-further_runs-further}
 

@@ -1,12 +1,8 @@
 -- `extents::run_of_plan` meets its contract. The loop's invariant: the j-th run of the regions left is the k-th of all.
-use mathlib.Core.Path.{◌≡◌, sym, ap, ◌∙◌}
-use mathlib.Core.List.{List}
-use Prim.Native.Nat.{ℕ, ◌+◌, ◌-◌, ◌*◌, ◌≤◌}
-use native.Mathlib.Omega.{arith}
-use borrow.Author.Rules.{rules}
+use mathlib.Core.Path.{◌≡◌}
+use Prim.Native.Nat.{◌-◌, ◌≤◌}
 use lib.ListN.{get_or}
-use Rattle.regionmap.specs.Map.{Extent}
-use Rattle.opening.proofs.CardRuns.{no_bytes, row, row_from, row_end, row_all, row_here, row_behind}
+use Rattle.opening.proofs.CardRuns.{no_bytes, row, row_from}
 use Rattle.opening.proofs.extents.run_of_plan.Given as goal
 
 abbrev pub invariant-loop-h : goal.invariant-loop-h

@@ -1,7 +1,6 @@
 -- `extents::two_apart` meets its contract: a branch for each side of "or".
 use mathlib.Core.Path.{◌≡◌, refl, sym, ◌∙◌}
 use mathlib.Core.Bool.{Bool, true, false, ◌||◌}
-use borrow.Author.Rules.{rules}
 use Rattle.layout.proofs.Tests.{not_both, or_first}
 use Rattle.regionmap.specs.Map.{apart}
 use Rattle.opening.proofs.extents.two_apart.Goals as goal

@@ -1,13 +1,12 @@
-use mathlib.Core.Path.{◌≡◌, refl, sym, ap, ◌∙◌}
+use mathlib.Core.Path.{refl, sym, ap, ◌∙◌}
 use mathlib.Core.List.{List}
-use Prim.Native.Nat.{◌-◌, ◌≤◌, ◌<◌}
+use Prim.Native.Nat.{◌<◌}
 use native.Mathlib.Omega.{arith}
 use borrow.Author.Rules.{rules}
-use borrow.Author.Tests.{not-true, not-false}
-use lib.ListN.{length, get_or, drop}
-use Rattle.regionmap.specs.Map.{Extent, all_within}
+use lib.ListN.{length}
+use Rattle.regionmap.specs.Map.{Extent}
 use Rattle.opening.proofs.Walk.{stops, goes, ends}
-use Rattle.opening.proofs.CardRuns.{no_bytes, row, ends_by, within}
+use Rattle.opening.proofs.CardRuns.{row, ends_by, within}
 use Rattle.opening.proofs.extents.within_rule.Goals as goal
 use Rattle.opening.proofs.extents.within_rule.Goals.{Start}
 

@@ -1,5 +1,4 @@
 -- `numbers::capacity_rule` meets its contract: both tests are the definition's.
-use borrow.Author.Rules.{rules}
 use Rattle.opening.proofs.numbers.capacity_rule.Goals as goal
 
 pub returns : goal.returns

@@ -1,7 +1,6 @@
 -- `numbers::lengths` meets its contract: each test is the definition's, and the products are of numbers that the requires bounds.
 use native.Mathlib.Nat.{mul-le-mul}
 use native.Mathlib.Omega.{arith}
-use borrow.Author.Rules.{rules}
 use Rattle.model.specs.Opening.{all_true, length_rules}
 use Rattle.opening.proofs.numbers.lengths.Goals as goal
 

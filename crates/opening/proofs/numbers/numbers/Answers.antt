@@ -1,5 +1,4 @@
 -- `numbers::numbers` meets its contract: the tests are the definition's, in its order.
-use borrow.Author.Rules.{rules}
 use Rattle.model.specs.Opening.{all_true, number_rules}
 use Rattle.opening.proofs.numbers.numbers.Goals as goal
 

@@ -1,5 +1,4 @@
 -- `plans::blocks_rule` meets its contract: each test is the definition's.
-use borrow.Author.Rules.{rules}
 use Rattle.regionmap.specs.Words.{map_in}
 use Rattle.model.specs.Opening.{blocks_rule}
 use Rattle.opening.proofs.plans.blocks_rule.Goals as goal

@@ -1,10 +1,10 @@
-use mathlib.Core.Path.{◌≡◌, sym, ap, ◌∙◌}
+use mathlib.Core.Path.{sym, ap, ◌∙◌}
 use mathlib.Core.Bool.{Bool, not, ◌&&◌}
 use mathlib.Core.List.{List}
-use Prim.Native.Nat.{ℕ, ◌+◌, ◌-◌, ◌*◌, ◌≤◌}
+use Prim.Native.Nat.{ℕ, ◌+◌, ◌*◌}
 use borrow.Author.Rules.{rules}
 use lib.ListN.{get_or}
-use Rattle.model.specs.Opening.{among, distinct, ids_rule, plans_in}
+use Rattle.model.specs.Opening.{among, distinct, ids_rule}
 use Rattle.opening.specs.Plans.{plans_from, ids_from}
 use Rattle.opening.proofs.Walk.{Walk, stops, goes, ends}
 use Rattle.opening.proofs.Steps.{plans_step, plans_end, plans_all, id_word}

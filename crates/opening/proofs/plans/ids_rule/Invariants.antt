@@ -1,14 +1,8 @@
 -- `plans::ids_rule` meets its contract. The loop's invariant: whether the ids left are distinct is whether all are.
-use mathlib.Core.Path.{◌≡◌, sym, ap, ◌∙◌}
-use mathlib.Core.Bool.{Bool, not, ◌&&◌}
-use mathlib.Core.List.{List}
-use Prim.Native.Nat.{ℕ, ◌+◌, ◌-◌, ◌*◌, ◌≤◌}
-use borrow.Author.Rules.{rules}
-use lib.ListN.{get_or}
-use Rattle.model.specs.Opening.{among, distinct, ids_rule, plans_in}
-use Rattle.opening.specs.Plans.{plans_from, ids_from}
-use Rattle.opening.proofs.Walk.{Walk, stops, goes, ends}
-use Rattle.opening.proofs.Steps.{plans_step, plans_end, plans_all, id_word}
+use mathlib.Core.Path.{◌≡◌}
+use Prim.Native.Nat.{◌-◌, ◌≤◌}
+use Rattle.model.specs.Opening.{ids_rule, plans_in}
+use Rattle.opening.specs.Plans.{plans_from}
 use Rattle.opening.proofs.plans.ids_rule.Given as goal
 
 abbrev pub invariant-loop-h : goal.invariant-loop-h

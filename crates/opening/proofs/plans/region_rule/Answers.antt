@@ -1,5 +1,4 @@
 -- `plans::region_rule` meets its contract: the map's words are all behind the first two.
-use borrow.Author.Rules.{rules}
 use Rattle.model.specs.Opening.{region_rule, plan_in}
 use Rattle.opening.proofs.Steps.{to_the_end}
 use Rattle.opening.proofs.plans.region_rule.Goals as goal

@@ -1,5 +1,4 @@
 -- `plans::run_on_block` meets its contract: both tests are the definition's.
-use borrow.Author.Rules.{rules}
 use Rattle.opening.proofs.plans.run_on_block.Goals as goal
 
 pub returns : goal.returns

@@ -1,15 +1,13 @@
-use mathlib.Core.Path.{◌≡◌, sym, ap, ◌∙◌}
+use mathlib.Core.Path.{sym, ap, ◌∙◌}
 use mathlib.Core.Bool.{Bool, ◌&&◌, and_assoc}
 use mathlib.Core.List.{List}
-use Prim.Native.Nat.{ℕ, ◌+◌, ◌-◌, ◌*◌, ◌≤◌}
+use Prim.Native.Nat.{ℕ, ◌+◌, ◌*◌}
 use borrow.Author.Rules.{rules}
-use borrow.Author.Tests.{not-true, not-false}
-use lib.ListN.{get_or, drop}
+use lib.ListN.{get_or}
 use Rattle.layout.specs.Block.{on_block}
-use Rattle.regionmap.specs.Words.{runs_in}
 use Rattle.model.specs.Opening.{runs_on_block}
 use Rattle.opening.proofs.Walk.{Walk, stops, goes, ends}
-use Rattle.opening.proofs.Steps.{runs_from, runs_step, runs_end, runs_all}
+use Rattle.opening.proofs.Steps.{runs_step, runs_end, runs_all}
 use Rattle.opening.proofs.plans.runs_on_block.Invariants.{left}
 use Rattle.opening.proofs.plans.runs_on_block.Goals as goal
 

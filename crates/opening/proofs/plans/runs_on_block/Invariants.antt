@@ -1,16 +1,12 @@
 -- `plans::runs_on_block` meets its contract. The loop's invariant: whether the runs left are on the block is whether all are.
-use mathlib.Core.Path.{◌≡◌, sym, ap, ◌∙◌}
-use mathlib.Core.Bool.{Bool, ◌&&◌, and_assoc}
+use mathlib.Core.Path.{◌≡◌}
+use mathlib.Core.Bool.{Bool}
 use mathlib.Core.List.{List}
-use Prim.Native.Nat.{ℕ, ◌+◌, ◌-◌, ◌*◌, ◌≤◌}
-use borrow.Author.Rules.{rules}
-use borrow.Author.Tests.{not-true, not-false}
-use lib.ListN.{get_or, drop}
-use Rattle.layout.specs.Block.{on_block}
+use Prim.Native.Nat.{ℕ, ◌-◌, ◌≤◌}
+use lib.ListN.{drop}
 use Rattle.regionmap.specs.Words.{runs_in}
 use Rattle.model.specs.Opening.{runs_on_block}
-use Rattle.opening.proofs.Walk.{Walk, stops, goes, ends}
-use Rattle.opening.proofs.Steps.{runs_from, runs_step, runs_end, runs_all}
+use Rattle.opening.proofs.Steps.{runs_from}
 use Rattle.opening.proofs.plans.runs_on_block.Given as goal
 
 abbrev pub left : ℕ → List ℕ → ℕ → ℕ → Bool

@@ -1,14 +1,13 @@
 use mathlib.Core.Path.{◌≡◌, sym, ap, ◌∙◌}
-use mathlib.Core.Bool.{Bool, true, ◌&&◌}
+use mathlib.Core.Bool.{true, ◌&&◌}
 use mathlib.Core.List.{List}
-use Prim.Native.Nat.{ℕ, ◌+◌, ◌-◌, ◌*◌, ◌≤◌, ◌<◌}
+use Prim.Native.Nat.{ℕ, ◌+◌, ◌*◌, ◌≤◌, ◌<◌}
 use native.Mathlib.Omega.{arith}
 use borrow.Author.Tests.{lt-ltb, le-ltb}
-use lib.ListN.{get_or, drop}
+use lib.ListN.{get_or}
 use lib.Dec.{ltb}
 use Rattle.regionmap.specs.Map.{Run, ascends}
-use Rattle.regionmap.specs.Words.{runs_in}
-use Rattle.opening.proofs.Steps.{runs_from, runs_step, runs_end, runs_all}
+use Rattle.opening.proofs.Steps.{runs_step, runs_end, runs_all}
 use Rattle.opening.proofs.plans.starts_rise.Invariants.{left}
 use Rattle.opening.proofs.plans.starts_rise.Goals as goal
 

@@ -1,15 +1,12 @@
 -- `plans::starts_rise` meets its contract. The loop's invariant: whether the runs left ascend from `lo` is whether all do from 0.
-use mathlib.Core.Path.{◌≡◌, sym, ap, ◌∙◌}
-use mathlib.Core.Bool.{Bool, true, ◌&&◌}
+use mathlib.Core.Path.{◌≡◌}
+use mathlib.Core.Bool.{Bool}
 use mathlib.Core.List.{List}
-use Prim.Native.Nat.{ℕ, ◌+◌, ◌-◌, ◌*◌, ◌≤◌, ◌<◌}
-use native.Mathlib.Omega.{arith}
-use borrow.Author.Tests.{lt-ltb, le-ltb}
+use Prim.Native.Nat.{ℕ, ◌-◌, ◌≤◌}
 use lib.ListN.{get_or, drop}
-use lib.Dec.{ltb}
-use Rattle.regionmap.specs.Map.{Run, ascends}
+use Rattle.regionmap.specs.Map.{ascends}
 use Rattle.regionmap.specs.Words.{runs_in}
-use Rattle.opening.proofs.Steps.{runs_from, runs_step, runs_end, runs_all}
+use Rattle.opening.proofs.Steps.{runs_from}
 use Rattle.opening.proofs.plans.starts_rise.Given as goal
 
 -- whether the runs from the j-th on ascend from lo

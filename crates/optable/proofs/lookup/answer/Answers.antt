@@ -1,5 +1,5 @@
 -- `lookup::answer` meets its contract, by the test.
-use Rattle.std.proofs.Common.{Bool, sym, ap, ◌∙◌, rules}
+use Rattle.std.proofs.Common.{Bool, sym, ap, ◌∙◌}
 use Rattle.layout.specs.Pick.{pick}
 use Rattle.optable.specs.Looked.{answer_of}
 use Rattle.optable.proofs.lookup.answer.Goals as goal

@@ -1,10 +1,7 @@
 -- `lookup::is_live` meets its contract, case by case.
-use Rattle.std.proofs.Common.{◌≡◌, true, [], ◌∷◌, sym, refl, ap, inl, inr, arith, rules}
-use types.Run.{OneOf}
-use denote.Enum.Declared.{tag_of}
+use Rattle.std.proofs.Common.{◌≡◌, true, sym, refl, ap}
 use Rattle.model.specs.declared.Awaits.{Awaits}
 use Rattle.model.specs.declared.Awaits.TheVariants.{Nothing, Piece, Flush}
-use Rattle.model.specs.contracts.Awaits as Declared
 use Rattle.step.specs.Step.{is_live}
 use Rattle.optable.proofs.lookup.is_live.Goals as goal
 

@@ -1,5 +1,5 @@
 -- `lookup::is_page` meets its contract, case by case.
-use Rattle.std.proofs.Common.{sym, ap, rules}
+use Rattle.std.proofs.Common.{sym, ap}
 use Rattle.optable.specs.Looked.{is_page}
 use Rattle.optable.proofs.lookup.is_page.Goals as goal
 

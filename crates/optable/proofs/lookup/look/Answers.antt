@@ -1,8 +1,7 @@
-use Rattle.std.proofs.Common.{◌≡◌, ℕ, ◌-◌, ◌+◌, ◌<◌, min, length, get_or, sym, ap, ◌∙◌, rules, arith}
+use Rattle.std.proofs.Common.{◌≡◌, ◌-◌, ◌+◌, ◌<◌, min, length, get_or, sym, ap, ◌∙◌, rules, arith}
 use Rattle.std.proofs.lemmas.List.{get_or_default}
 use Rattle.model.specs.State.{freed}
 use Rattle.model.specs.declared.Row.{Row}
-use Rattle.optable.specs.declared.lookup.Looked.{Looked}
 use Rattle.optable.specs.Looked.{seen_by}
 use Rattle.optable.proofs.Turning.{found, none_found, one_more_lem}
 use Rattle.optable.proofs.lookup.look.Goals as goal
@@ -26,9 +25,9 @@ loop-i-preserved c =
     let more : i - 1 + 1 ≡ i = omega arith in (
       omega (arith, c.loop-i.invariant.0),
       c.seen-l.ensures
-      ∙ ap (λ (r : Row). seen_by r c.loop-i.l) (get_or_default rows (i - 1) _ (freed 0) (omega arith))
-      ∙ ap (seen_by (get_or rows (i - 1) (freed 0))) (c.loop-i.invariant.1 ∙ ap (found n depth rows) (sym more))
-      ∙ one_more_lem n depth rows (i - 1) inside,
+          ∙ ap (λ (r : Row). seen_by r c.loop-i.l) (get_or_default rows (i - 1) _ (freed 0) (omega arith))
+          ∙ ap (seen_by (get_or rows (i - 1) (freed 0))) (c.loop-i.invariant.1 ∙ ap (found n depth rows) (sym more))
+          ∙ one_more_lem n depth rows (i - 1) inside,
     )
 
 pub returns : goal.returns

@@ -1,5 +1,5 @@
 -- `lookup::mark` meets its contract, by that of the wrapping sum.
-use Rattle.std.proofs.Common.{ℕ, ◌+◌, ◌%◌, ◌^◌, ap, ◌∙◌, rules, eq-eqb, ne_eqb}
+use Rattle.std.proofs.Common.{ℕ, ◌+◌, ◌%◌, ◌^◌, ap, ◌∙◌, eq-eqb, ne_eqb}
 use Rattle.layout.specs.Pick.{pick}
 use Rattle.regionmap.specs.Found.{wrap64}
 use Rattle.model.specs.declared.Counts.{Counts}

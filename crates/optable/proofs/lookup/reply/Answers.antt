@@ -1,5 +1,5 @@
 -- `lookup::reply` meets its contract, case by case.
-use Rattle.std.proofs.Common.{sym, ap, ◌∙◌, rules}
+use Rattle.std.proofs.Common.{sym, ap, ◌∙◌}
 use Rattle.completion.specs.declared.Reply.TheVariants.{Mark}
 use Rattle.model.specs.declared.Lookup.{Lookup}
 use Rattle.optable.specs.Looked.{replies_as}

@@ -1,5 +1,5 @@
 -- `lookup::seen` meets its contract, by those of what it calls.
-use Rattle.std.proofs.Common.{◌≡◌, min, Bool, true, false, ◌||◌, ◌⊎◌, sym, ap, ◌∙◌, inl, inr, ⊎_elim, rules}
+use Rattle.std.proofs.Common.{◌≡◌, min, Bool, true, false, ◌||◌, ◌⊎◌, sym, ap, ◌∙◌, inl, inr}
 use Rattle.layout.specs.Pick.{pick}
 use Rattle.optable.specs.Looked.{seen_by}
 use Rattle.optable.proofs.Chosen.{chosen}

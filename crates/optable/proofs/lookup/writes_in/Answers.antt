@@ -1,13 +1,10 @@
 -- `lookup::writes_in` meets its contract, case by case.
-use Rattle.std.proofs.Common.{◌≡◌, false, [], ◌∷◌, sym, refl, ap, ◌∙◌, inl, inr, arith, rules}
-use types.Run.{OneOf}
-use denote.Enum.Declared.{tag_of}
+use Rattle.std.proofs.Common.{◌≡◌, false, sym, refl, ap, ◌∙◌}
 use Rattle.model.specs.declared.Awaits.{Awaits}
 use Rattle.model.specs.declared.Awaits.TheVariants.{Nothing, Piece, Flush}
 use Rattle.model.specs.declared.Kind.{Kind}
 use Rattle.model.specs.declared.Kind.TheVariants.{Page, Read}
 use Rattle.model.specs.declared.Split.{Split}
-use Rattle.model.specs.contracts.Awaits as Declared
 use Rattle.step.specs.Step.{writes_in}
 use Rattle.optable.specs.Looked.{is_page}
 use Rattle.optable.proofs.lookup.writes_in.Goals as goal

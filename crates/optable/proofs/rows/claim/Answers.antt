@@ -1,5 +1,5 @@
 -- `rows::claim` meets its contract: the row is stored where its place is below the number of rows that may be written.
-use Rattle.std.proofs.Common.{◌<◌, ◌≤◌, length, subst, rules, arith}
+use Rattle.std.proofs.Common.{◌<◌, ◌≤◌, length, subst, rules}
 use Rattle.optable.specs.Claimed.{claimable_of}
 use Rattle.optable.proofs.Claims.{claims, claims_none}
 use Rattle.optable.proofs.rows.claim.Goals as goal

@@ -1,5 +1,5 @@
 -- `rows::release` meets its contract: the row is stored where its place is below the number of rows that may be written.
-use Rattle.std.proofs.Common.{◌<◌, ◌≤◌, length, subst, rules, arith}
+use Rattle.std.proofs.Common.{◌<◌, ◌≤◌, length, subst, rules}
 use Rattle.optable.specs.Claimed.{releasable_of}
 use Rattle.optable.proofs.Claims.{releases, releases_none}
 use Rattle.optable.proofs.rows.release.Goals as goal

@@ -1,5 +1,5 @@
 -- `start::durable_as` meets its contract: each arm knows which kind it is, and there the definition computes.
-use Rattle.std.proofs.Common.{sym, ap, rules}
+use Rattle.std.proofs.Common.{sym, ap}
 use Rattle.model.specs.declared.Kind.{Kind}
 use Rattle.step.specs.Step.{durable_as}
 use Rattle.optable.proofs.start.durable_as.Goals as goal

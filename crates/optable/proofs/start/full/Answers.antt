@@ -1,5 +1,5 @@
 -- `start::full` meets its contract: the test is made by a difference, and says the same of the sum.
-use Rattle.std.proofs.Common.{◌≡◌, ℕ, ◌+◌, ◌-◌, ◌<◌, Bool, true, false, not, ltb, leb, sym, refl, ap, arith, rules, ltb-false, ltb-true, le-ltb, le-leb}
+use Rattle.std.proofs.Common.{◌≡◌, ℕ, ◌+◌, ◌-◌, ◌<◌, Bool, true, false, not, ltb, leb, sym, refl, ap, arith, ltb-false, ltb-true, le-ltb, le-leb}
 use borrow.Author.Tests.{lt-leb}
 use Rattle.optable.proofs.start.full.Goals as goal
 

@@ -1,7 +1,6 @@
 -- `start::queue_tag` meets its contract, by that of the wrapping sum.
 use Rattle.regionmap.specs.Found.{wrap64}
 use Rattle.step.specs.Step.{queue_tag}
-use Rattle.std.proofs.Common.{rules}
 use Rattle.optable.proofs.start.queue_tag.Goals as goal
 
 pub returns : goal.returns

@@ -1,5 +1,5 @@
 -- `start::start` meets its contract: each field is the definition's.
-use Rattle.std.proofs.Common.{Bool, ap, rules}
+use Rattle.std.proofs.Common.{Bool, ap}
 use Rattle.model.specs.declared.Awaits.TheVariants.{Piece}
 use Rattle.step.specs.Step.{claimed_by, begun}
 use Rattle.optable.proofs.start.start.Goals as goal

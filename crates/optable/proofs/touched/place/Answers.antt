@@ -1,7 +1,6 @@
 -- `touched::place` meets its contract, case by case.
-use Rattle.std.proofs.Common.{Bool, ◌≡◌, ℕ, ◌≤◌, List, [], ◌∷◌, sym, refl, ap, ◌∙◌, inl, inr, arith, rules}
+use Rattle.std.proofs.Common.{Bool, ◌≡◌, ℕ, List, sym, refl, ap, ◌∙◌}
 use Rattle.model.specs.declared.Call.{Call}
-use Rattle.model.specs.declared.Call.TheVariants as Call
 use Rattle.model.specs.declared.Request.{Request}
 use Rattle.platform.specs.declared.Answer
 use Rattle.platform.specs.declared.Flushed

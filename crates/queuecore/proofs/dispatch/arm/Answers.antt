@@ -1,7 +1,6 @@
 -- `dispatch::arm` meets its contract: each arm is what its function ensures.
 use Rattle.queuecore.proofs.Touching.{as_known}
 use Rattle.arrival.specs.Arrived.{arrived_call}
-use borrow.Author.Rules.{rules}
 use Rattle.queuecore.proofs.dispatch.arm.Goals as goal
 
 pub returns-in-Write : goal.returns-in-Write

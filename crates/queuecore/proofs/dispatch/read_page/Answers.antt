@@ -7,7 +7,6 @@ use Rattle.step.specs.Step.{start_of, end_of, read_verdict, called}
 use Rattle.step.proofs.Answers.{read_passed}
 use Rattle.optable.specs.Called.{place_of}
 use Rattle.queuecore.proofs.Touching.{went, submits}
-use borrow.Author.Rules.{rules}
 use Rattle.queuecore.proofs.dispatch.read_page.Goals as goal
 
 pub returns : goal.returns

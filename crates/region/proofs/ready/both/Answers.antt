@@ -1,7 +1,6 @@
 -- `ready::both` meets its contract: each arm knows how the first group was answered, and there the first no is found.
 use mathlib.Core.Path.{sym, ap, ◌∙◌}
 use mathlib.Core.List.{[], ◌∷◌}
-use borrow.Author.Rules.{rules}
 use Rattle.model.specs.declared.Asked.{Asked}
 use Rattle.step.specs.Questions.{first_no}
 use Rattle.region.proofs.Groups.{alone}

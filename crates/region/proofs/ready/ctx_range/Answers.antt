@@ -1,5 +1,4 @@
 -- `ready::ctx_range` meets its contract: its end is what capped_end ensures.
-use borrow.Author.Rules.{rules}
 use Rattle.step.specs.Questions.{range_from}
 use Rattle.region.proofs.ready.ctx_range.Goals as goal
 

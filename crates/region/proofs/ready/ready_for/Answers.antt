@@ -1,6 +1,5 @@
 -- `ready::ready_for` meets its contract: each way out knows which question was the first to fail, and the list computes up to there.
 use mathlib.Core.Path.{sym, ◌∙◌}
-use borrow.Author.Rules.{rules}
 use Rattle.step.specs.Questions.{ask, first_no, store_writable, unpoisoned, region_writable}
 use Rattle.region.proofs.Groups.{alone}
 use Rattle.region.proofs.ready.ready_for.Goals as goal

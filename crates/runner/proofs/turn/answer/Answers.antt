@@ -1,6 +1,5 @@
 -- `turn::answer` meets its contract: the line is answered.
 use mathlib.Core.Path.{refl}
-use borrow.Author.Rules.{rules}
 use Rattle.runner.proofs.turn.answer.Goals as goal
 
 pub returns : goal.returns

@@ -1,5 +1,4 @@
 -- `turn::line` meets its contract: what is asked for is what the line says (Turns).
-use borrow.Author.Rules.{rules}
 use Rattle.runner.proofs.Turns.{line_says}
 use Rattle.runner.proofs.turn.line.Goals as goal
 

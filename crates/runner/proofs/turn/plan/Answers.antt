@@ -1,6 +1,5 @@
 -- `turn::plan` meets its contract: by computation.
 use mathlib.Core.Path.{refl}
-use borrow.Author.Rules.{rules}
 use Rattle.step.specs.Figures.{figures_plan}
 use Rattle.runner.proofs.turn.plan.Goals as goal
 

@@ -1,6 +1,5 @@
 -- `turn::turn` meets its contract: by whether the line is whole (input Turns.antt).
 use mathlib.Core.Path.{refl}
-use borrow.Author.Rules.{rules}
 use Rattle.input.proofs.Turns.{answered, unanswered}
 use Rattle.runner.specs.Running.{Leaves}
 use Rattle.runner.proofs.Turns.{same}

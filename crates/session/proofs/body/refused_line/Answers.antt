@@ -1,6 +1,5 @@
 -- `body::refused_line` meets its contract: each arm knows what the line says (Refusals).
 use native.Mathlib.Omega.{arith}
-use borrow.Author.Rules.{rules}
 use Rattle.session.proofs.Refusals.{comment_refused, bad_refused, said_refused}
 use Rattle.session.proofs.body.refused_line.Goals as goal
 

@@ -2,7 +2,6 @@
 use mathlib.Core.Path.{sym}
 use native.Mathlib.Omega.{arith}
 use lib.Seq.{length-take-le}
-use borrow.Author.Rules.{rules}
 use Rattle.session.proofs.Parts.{part_answered}
 use Rattle.session.proofs.body.table_line.Goals as goal
 

@@ -1,8 +1,6 @@
 -- `calls::ask` meets its contract: each arm knows what the line asks for (Doing).
-use mathlib.Core.Path.{◌≡◌, refl, sym, ap, ◌∙◌}
 use native.Mathlib.Omega.{arith}
 use Rattle.session.proofs.Doing.{nothing_asked, other_asked, call_asked}
-use borrow.Author.Rules.{rules}
 use Rattle.session.proofs.calls.ask.Goals as goal
 
 pub returns-in-Nothing : goal.returns-in-Nothing

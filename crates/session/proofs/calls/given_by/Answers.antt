@@ -1,10 +1,8 @@
 -- `calls::given_by` meets its contract: of the calls only an answer gives a flush count.
-use mathlib.Core.Path.{◌≡◌, sym, ap}
-use Prim.Native.Nat.{ℕ}
+use mathlib.Core.Path.{sym, ap}
 use Rattle.model.specs.declared.Call.{Call}
 use Rattle.session.specs.Asking.{given_by}
 use Rattle.session.proofs.Doing.{none_given}
-use borrow.Author.Rules.{rules}
 use Rattle.session.proofs.calls.given_by.Goals as goal
 
 pub returns-in-Answer : goal.returns-in-Answer

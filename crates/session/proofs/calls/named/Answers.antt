@@ -1,6 +1,5 @@
 -- `calls::named` meets its contract: the words are those of the definition.
 use Rattle.session.specs.Asking.{named_in}
-use borrow.Author.Rules.{rules}
 use Rattle.session.proofs.calls.named.Goals as goal
 
 pub returns : goal.returns

@@ -1,5 +1,4 @@
 -- `calls::run` meets its contract: the call is made, and its reply printed.
-use borrow.Author.Rules.{rules}
 use Rattle.session.proofs.calls.run.Goals as goal
 
 pub returns : goal.returns

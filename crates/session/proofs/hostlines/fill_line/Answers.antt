@@ -1,14 +1,11 @@
 -- `hostlines::fill_line` meets its contract: by whether the host may write.
-use mathlib.Core.Path.{◌≡◌, refl, sym, ap, ◌∙◌}
+use mathlib.Core.Path.{refl, sym, ap, ◌∙◌}
 use native.Mathlib.Omega.{arith}
 use mathlib.Core.Bool.{true, false}
-use Prim.Native.Nat.{ℕ, ◌+◌, ◌*◌, ◌≤◌}
-use lib.ListN.{length}
-use borrow.Author.Tests.{not-true, not-false}
+use Prim.Native.Nat.{ℕ, ◌+◌, ◌*◌}
 use Rattle.layout.specs.Pick.{pick}
 use Rattle.hostfill.specs.Writes.{filled}
 use Rattle.session.proofs.Places.{ends, capacity_is}
-use borrow.Author.Rules.{rules}
 use Rattle.session.proofs.hostlines.fill_line.Goals as goal
 
 pub returns-then-not-may_fill : goal.returns-then-not-may_fill

@@ -1,10 +1,9 @@
 -- `hostlines::rows_line` meets its contract: an open table has at most 64 rows (Listed).
-use mathlib.Core.Path.{◌≡◌, refl, ◌∙◌}
+use mathlib.Core.Path.{◌≡◌, refl}
 use native.Mathlib.Omega.{arith}
 use lib.ListN.{length}
 use Rattle.model.specs.Memory.{settings_in}
 use Rattle.session.proofs.Listed.{lists}
-use borrow.Author.Rules.{rules}
 use Rattle.session.proofs.hostlines.rows_line.Goals as goal
 
 pub returns : goal.returns

@@ -1,18 +1,16 @@
 -- `hostlines::sum_line` meets its contract: by whether the stretch lies in the pool.
-use mathlib.Core.Path.{◌≡◌, refl, sym, ap, ◌∙◌}
+use mathlib.Core.Path.{◌≡◌, sym, ap, ◌∙◌}
 use native.Mathlib.Omega.{arith}
 use mathlib.Core.Bool.{Bool}
-use Prim.Native.Nat.{ℕ, ◌+◌, ◌-◌, ◌*◌, ◌≤◌}
-use lib.ListN.{length, take, drop}
-use borrow.Author.Tests.{not-true, not-false}
+use Prim.Native.Nat.{◌+◌, ◌-◌, ◌*◌}
+use lib.ListN.{take, drop}
 use Rattle.layout.specs.Pick.{pick}
 use Rattle.model.specs.Memory.{settings_in}
-use Rattle.hostfill.specs.Writes.{in_pool, sum_of}
+use Rattle.hostfill.specs.Writes.{sum_of}
 use Rattle.printer.specs.Rows.{sum_text}
 use Rattle.printer.specs.Texts.{bad_text}
 use Rattle.session.specs.Host.{summed}
 use Rattle.session.proofs.Places.{ends, settings_are, capacity_is}
-use borrow.Author.Rules.{rules}
 use Rattle.session.proofs.hostlines.sum_line.Goals as goal
 
 pub returns-then-not-in_pool : goal.returns-then-not-in_pool

@@ -1,11 +1,10 @@
 -- `start::bytes_for` meets its contract: where there are fewer bytes than are asked for, all are taken.
 use mathlib.Core.Path.{◌≡◌, refl, sym, ap, ◌∙◌}
-use Prim.Native.Nat.{ℕ, ◌*◌, ◌≤◌, ◌<◌}
+use Prim.Native.Nat.{ℕ, ◌*◌, ◌<◌}
 use native.Mathlib.Nat.{div-lt_iff_lt-mul, le-div_iff_mul-le, mul-zero}
 use native.Mathlib.Omega.{arith}
 use lib.ListN.{length, take}
 use lib.Seq.{take_all}
-use borrow.Author.Rules.{rules}
 use Rattle.session.proofs.start.bytes_for.Goals as goal
 
 pub returns-then-capacity-eq0 : goal.returns-then-capacity-eq0

@@ -1,11 +1,10 @@
 -- `start::keeps_rules` meets its contract: numbers that are too large break a rule, and with the others no sum or product exceeds 64 bits.
-use mathlib.Core.Path.{◌≡◌, sym}
+use mathlib.Core.Path.{sym}
 use native.Mathlib.Nat.{mul-le-mul}
 use native.Mathlib.Omega.{arith}
 use Rattle.layout.proofs.Tests.{refused}
 use Rattle.model.proofs.Laws.{opening_laws}
 use Rattle.session.specs.Start.{lengths_for, keeps}
-use borrow.Author.Rules.{rules}
 use Rattle.session.proofs.start.keeps_rules.Goals as goal
 
 pub returns-then-o-gt4096 : goal.returns-then-o-gt4096

@@ -3,7 +3,6 @@ use mathlib.Core.Path.{sym, ap, ◌∙◌}
 use mathlib.Core.Bool.{Bool}
 use Rattle.layout.specs.Pick.{pick}
 use Rattle.session.specs.declared.start.Started.TheVariants.{Refused, TooLarge}
-use borrow.Author.Rules.{rules}
 use Rattle.session.proofs.start.not_opened.Goals as goal
 
 pub returns-then-keeps_rules : goal.returns-then-keeps_rules

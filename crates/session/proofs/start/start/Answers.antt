@@ -2,7 +2,6 @@
 use mathlib.Core.Path.{sym}
 use lib.Seq.{length-take-le}
 use Rattle.session.proofs.Starting.{is_table, is_none}
-use borrow.Author.Rules.{rules}
 use Rattle.session.proofs.start.start.Goals as goal
 
 pub slice_bounds-part-end : goal.slice_bounds-part-end

@@ -1,8 +1,6 @@
 -- `table::answer` meets its contract: each arm knows what the line says (Lines).
-use mathlib.Core.Path.{◌≡◌, refl, sym, ap, ◌∙◌}
 use native.Mathlib.Omega.{arith}
 use Rattle.session.proofs.Lines.{look_said, len_said, fill_said, sum_said, rows_said, asks_said}
-use borrow.Author.Rules.{rules}
 use Rattle.session.proofs.table.answer.Goals as goal
 
 pub returns-in-Look : goal.returns-in-Look

@@ -1,12 +1,8 @@
 -- `table::len_line` meets its contract: the free stack without its last word.
-use mathlib.Core.Path.{◌≡◌, refl, sym, ap, ◌∙◌, subst}
-use mathlib.Core.List.{List}
+use mathlib.Core.Path.{sym}
 use native.Mathlib.Omega.{arith}
-use Prim.Native.Nat.{ℕ, ◌-◌, ◌≤◌}
-use lib.ListN.{length, take}
 use lib.Seq.{length-take-le}
 use Rattle.session.proofs.Lines.{looks_shorter}
-use borrow.Author.Rules.{rules}
 use Rattle.session.proofs.table.len_line.Goals as goal
 
 pub slice_bounds-look-end : goal.slice_bounds-look-end

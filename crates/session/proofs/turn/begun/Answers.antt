@@ -1,6 +1,5 @@
 -- `turn::begun` meets its contract.
 use mathlib.Core.Path.{refl, ap}
-use borrow.Author.Rules.{rules}
 use lib.ListN.{replicate}
 use Rattle.model.specs.declared.Row.{Row}
 use Rattle.session.proofs.turn.begun.Goals as goal

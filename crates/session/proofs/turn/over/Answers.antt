@@ -1,5 +1,4 @@
 -- `turn::over` meets its contract: by the stage (Turns).
-use borrow.Author.Rules.{rules}
 use Rattle.session.proofs.Turns.{over_ends, others_go_on}
 use Rattle.session.proofs.turn.over.Goals as goal
 

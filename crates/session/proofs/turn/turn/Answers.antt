@@ -1,6 +1,5 @@
 -- `turn::turn` meets its contract: by whether the line is whole (input Turns.antt).
 use mathlib.Core.Path.{refl}
-use borrow.Author.Rules.{rules}
 use Rattle.input.proofs.Turns.{answered, unanswered}
 use Rattle.session.specs.Replayed.{Leaves}
 use Rattle.session.proofs.Turns.{same}

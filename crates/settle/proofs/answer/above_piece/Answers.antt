@@ -1,5 +1,5 @@
 -- `answer::above_piece` meets its contract: each arm knows whether the answer is a count.
-use Rattle.std.proofs.Common.{◌≡◌, false, refl, rules}
+use Rattle.std.proofs.Common.{◌≡◌, false, refl}
 use Rattle.platform.specs.declared.Answer.{Answer}
 use Rattle.step.specs.Rules.{above_piece}
 use Rattle.settle.proofs.Settling.{no_count}

@@ -2,7 +2,6 @@
 use mathlib.Core.Bool.{and-true}
 use Rattle.step.specs.Rules.{is_refusal, first_refused}
 use Rattle.settle.proofs.Finishing.{no_refusal}
-use Rattle.std.proofs.Common.{rules}
 use Rattle.settle.proofs.answer.first_refused.Goals as goal
 
 pub returns-in-Refused : goal.returns-in-Refused

@@ -1,5 +1,5 @@
 -- `answer::goes_on` meets its contract: bytes are left where the piece is shorter than what is left; an answer that is no count is not whole.
-use Rattle.std.proofs.Common.{◌≡◌, false, refl, rules}
+use Rattle.std.proofs.Common.{◌≡◌, false, refl}
 use Rattle.platform.specs.declared.Answer.{Answer}
 use Rattle.step.specs.Rules.{is_whole, goes_on}
 use Rattle.settle.proofs.Settling.{no_count}

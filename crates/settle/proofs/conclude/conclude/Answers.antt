@@ -1,6 +1,5 @@
 -- `conclude::conclude` meets its contract: each way out knows what was asked, and there the definition computes.
-use Rattle.std.proofs.Common.{◌≡◌, true, false, ◌||◌, sym, refl, ◌∙◌, rules}
-use borrow.Author.Tests.{not-true, not-false}
+use Rattle.std.proofs.Common.{◌≡◌, true, false, ◌||◌, sym, refl, ◌∙◌}
 use Rattle.layout.specs.Pick.{pick}
 use Rattle.step.specs.Rules.{written_as}
 use Rattle.settle.specs.Finished.{cause_is, fate_by}

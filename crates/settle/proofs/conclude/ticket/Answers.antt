@@ -1,5 +1,5 @@
 -- `conclude::ticket` meets its contract: a generation below 2^32 is its lower 32 bits, and the need is what domain::ticket ensures.
-use Rattle.std.proofs.Common.{mod-eq_of_lt, rules}
+use Rattle.std.proofs.Common.{mod-eq_of_lt}
 use Rattle.settle.proofs.Settling.{ticket_of_lem}
 use Rattle.settle.proofs.conclude.ticket.Goals as goal
 

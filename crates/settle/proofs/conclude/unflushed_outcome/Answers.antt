@@ -1,6 +1,5 @@
 -- `conclude::unflushed_outcome` meets its contract: each arm knows whether the store is poisoned.
 use Rattle.step.specs.Rules.{unflushed}
-use Rattle.std.proofs.Common.{rules}
 use Rattle.settle.proofs.conclude.unflushed_outcome.Goals as goal
 
 pub returns-in-Never : goal.returns-in-Never

@@ -1,5 +1,5 @@
 -- `finish::finish_piece` meets its contract: each way out knows what was asked, and there the definition computes.
-use Rattle.std.proofs.Common.{◌≡◌, true, false, sym, ◌∙◌, rules}
+use Rattle.std.proofs.Common.{◌≡◌, true, false, sym, ◌∙◌}
 use Rattle.layout.specs.Pick.{pick}
 use Rattle.step.specs.Rules.{above_piece, first_refused, goes_on, split_after, piece_answered}
 use Rattle.settle.specs.Finished.{turned_by, fate_by}

@@ -1,6 +1,5 @@
 -- `flushed::flush_outcome` meets its contract: each arm knows which result it is, and there the definition computes.
 use Rattle.step.specs.Rules.{flush_outcome}
-use Rattle.std.proofs.Common.{rules}
 use Rattle.settle.proofs.flushed.flush_outcome.Goals as goal
 
 pub returns-in-Need : goal.returns-in-Need

@@ -1,5 +1,5 @@
 -- `lastpiece::failed_write` meets its contract: its parts are what the callees ensure.
-use Rattle.std.proofs.Common.{ℕ, sym, refl, ap, ◌∙◌, rules}
+use Rattle.std.proofs.Common.{ℕ, sym, refl, ap, ◌∙◌}
 use Rattle.layout.specs.Pick.{pick}
 use Rattle.step.specs.Rules.{buffer_as, range_of, first_of, last_of, cause_of, last_piece}
 use Rattle.settle.specs.Finished.{cause_is, fate_by, plan_with}

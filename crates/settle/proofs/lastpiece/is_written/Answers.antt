@@ -1,5 +1,5 @@
 -- `lastpiece::is_written` meets its contract: done + n is the total just where n is what is left; an answer that is no count is not written (Settling).
-use Rattle.std.proofs.Common.{◌≡◌, false, refl, rules}
+use Rattle.std.proofs.Common.{◌≡◌, false, refl}
 use Rattle.platform.specs.declared.Answer.{Answer}
 use Rattle.step.specs.Rules.{is_written}
 use Rattle.settle.proofs.Settling.{fills, no_count}

@@ -1,5 +1,5 @@
 -- `lastpiece::last_piece` meets its contract: each arm knows which kind it is.
-use Rattle.std.proofs.Common.{refl, rules}
+use Rattle.std.proofs.Common.{refl}
 use Rattle.settle.proofs.lastpiece.last_piece.Goals as goal
 
 pub returns-in-Page : goal.returns-in-Page

@@ -1,5 +1,5 @@
 -- `lastpiece::last_read` meets its contract: its parts are what the callees ensure.
-use Rattle.std.proofs.Common.{sym, ◌∙◌, ap₂, rules}
+use Rattle.std.proofs.Common.{sym, ◌∙◌, ap₂}
 use Rattle.step.specs.Rules.{buffer_as, range_of, first_of, last_of, last_piece}
 use Rattle.settle.specs.Finished.{cause_is, fate_by, plan_with}
 use Rattle.settle.proofs.Settling.{same_end}

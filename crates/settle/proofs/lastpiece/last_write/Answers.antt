@@ -1,6 +1,5 @@
 -- `lastpiece::last_write` meets its contract: what is not written fails, and what is written concludes.
-use Rattle.std.proofs.Common.{sym, refl, ◌∙◌, rules}
-use borrow.Author.Tests.{not-true, not-false}
+use Rattle.std.proofs.Common.{sym, refl, ◌∙◌}
 use Rattle.layout.specs.Pick.{pick}
 use Rattle.step.specs.Rules.{last_piece}
 use Rattle.settle.proofs.lastpiece.last_write.Goals as goal

@@ -1,5 +1,5 @@
 -- `lastpiece::read_length` meets its contract: a sum that fits does not wrap; of an answer that is no count the length is the whole (Settling).
-use Rattle.std.proofs.Common.{◌≡◌, refl, rules}
+use Rattle.std.proofs.Common.{◌≡◌, refl}
 use Rattle.platform.specs.declared.Answer.{Answer}
 use Rattle.step.specs.Rules.{read_length}
 use Rattle.settle.specs.Finished.{CountFits}

@@ -1,5 +1,5 @@
 -- `lastpiece::read_outcome` meets its contract: each arm knows which answer it is; a sum that fits does not wrap (Settling).
-use Rattle.std.proofs.Common.{ap, rules}
+use Rattle.std.proofs.Common.{ap}
 use Rattle.layout.specs.Pick.{pick}
 use Rattle.completion.specs.declared.Outcome.TheVariants.{Read}
 use Rattle.step.specs.Rules.{read_outcome}

@@ -3,7 +3,6 @@ use mathlib.Core.Path.{◌≡◌, ap}
 use lib.ListN.{length}
 use Rattle.memory.specs.declared.lengths.Fit.{Fit}
 use Rattle.optable.proofs.Looking.{looks_as}
-use borrow.Author.Rules.{rules}
 use Rattle.submitter.proofs.host.look_in.Goals as goal
 
 pub returns : goal.returns

@@ -1,6 +1,5 @@
 -- `preamble::before::before_line` meets its contract: each arm knows what the line says (BeforeLines).
 use native.Mathlib.Omega.{arith}
-use borrow.Author.Rules.{rules}
 use Rattle.session.proofs.BeforeLines.{comment_before, open_before, bad_before}
 use Rattle.session.proofs.preamble.before.before_line.Goals as goal
 

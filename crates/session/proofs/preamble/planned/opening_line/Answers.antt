@@ -1,7 +1,6 @@
 -- `preamble::planned::opening_line` meets its contract: each arm knows what the line says (PlannedLines).
 use mathlib.Core.Path.{sym, ◌∙◌}
 use native.Mathlib.Omega.{arith}
-use borrow.Author.Rules.{rules}
 use Rattle.session.proofs.PlannedLines.{comment_planned, region_planned, bad_planned, region_short}
 use Rattle.session.proofs.preamble.planned.opening_line.Goals as goal
 

@@ -1,5 +1,4 @@
 -- `preamble::planned::planned_line` meets its contract: `start`, or a line that is none (PlannedLines).
-use borrow.Author.Rules.{rules}
 use Rattle.session.proofs.PlannedLines.{start_planned, other_planned}
 use Rattle.session.proofs.preamble.planned.planned_line.Goals as goal
 

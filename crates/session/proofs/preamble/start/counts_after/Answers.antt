@@ -1,6 +1,5 @@
 -- `preamble::start::counts_after` meets its contract: by what became of the opening (StartLines).
 use mathlib.Core.Path.{◌∙◌}
-use borrow.Author.Rules.{rules}
 use Rattle.session.proofs.StartLines.{opened_counts_lem, other_counts}
 use Rattle.session.proofs.preamble.start.counts_after.Goals as goal
 

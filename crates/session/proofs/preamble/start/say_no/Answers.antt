@@ -1,5 +1,4 @@
 -- `preamble::start::say_no` meets its contract: it is the reply 13.
-use borrow.Author.Rules.{rules}
 use Rattle.session.specs.Unopened.{no_text13}
 use Rattle.session.proofs.preamble.start.say_no.Goals as goal
 

@@ -1,6 +1,5 @@
 -- `preamble::start::start_line` meets its contract: from what `start` leaves (StartLines).
 use mathlib.Core.Path.{refl}
-use borrow.Author.Rules.{rules}
 use Rattle.session.proofs.StartLines.{tells}
 use Rattle.session.proofs.preamble.start.start_line.Goals as goal
 

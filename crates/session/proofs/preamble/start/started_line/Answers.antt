@@ -1,5 +1,4 @@
 -- `preamble::start::started_line` meets its contract: by what became of the opening (StartLines).
-use borrow.Author.Rules.{rules}
 use Rattle.session.proofs.StartLines.{opened_goes, broken_goes, large_goes}
 use Rattle.session.proofs.preamble.start.started_line.Goals as goal
 
