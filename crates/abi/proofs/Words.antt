@@ -6,8 +6,8 @@ use native.Mathlib.Omega.{arith}
 use lib.ListN.{length, get_or, take, replicate}
 use lib.Seq.{take_all, take-suc, take_at}
 use Rattle.domain.specs.declared.Op.{Op}
-use Rattle.domain.specs.declared.OsError.{OsError}
-use Rattle.completion.specs.declared.Buffer.{Buffer}
+use Rattle.std.specs.declared.option.Option.{Option}
+use Rattle.completion.specs.Buffers.{Buffer}
 use Rattle.completion.specs.declared.Completion.{Completion}
 use Rattle.completion.specs.declared.Range.{Range}
 use Rattle.completion.specs.declared.Refusal.{Refusal}
@@ -33,7 +33,7 @@ unfolding reply_words
 away_are f n v t e g h = ap₂ away e (g ∙ ap values_words h) ∙ away_filled (number f) (values f)
 
 -- a first piece that is refused
-pub rejected_are : (r : Range) (op : Op) (raw : OsError) (buf : Buffer) (o h e : ℕ) (b : List ℕ) → o ≡ op_word op → h ≡ has_word raw → e ≡ raw_word raw → b ≡ buffer_words buf
+pub rejected_are : (r : Range) (op : Op) (raw : Option ℕ) (buf : Buffer) (o h e : ℕ) (b : List ℕ) → o ≡ op_word op → h ≡ has_word raw → e ≡ raw_word raw → b ≡ buffer_words buf
     → filled (3 ∷ r.region ∷ r.start.0 ∷ r.end.0 ∷ o ∷ h ∷ e ∷ b) ≡ reply_words (Rejected r op raw buf)
 unfolding reply_words
 rejected_are r op raw buf o h e b eo eh ee eb = λ i. filled (3 ∷ r.region ∷ r.start.0 ∷ r.end.0 ∷ eo i ∷ eh i ∷ ee i ∷ eb i)

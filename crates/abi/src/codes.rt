@@ -8,34 +8,6 @@ use model::{Gate, Opening, Request};
 use platform::{Answer, Flushed};
 use regionmap::Position;
 
-// An answer, or a form that names none.
-#[derive(Clone, Copy)]
-pub enum AnswerForm {
-    Known(Answer),
-    Unknown,
-}
-
-// A flush result, or a form that names none.
-#[derive(Clone, Copy)]
-pub enum FlushedForm {
-    Known(Flushed),
-    Unknown,
-}
-
-// A gate, or a code that names none.
-#[derive(Clone, Copy)]
-pub enum GateForm {
-    Known(Gate),
-    Unknown,
-}
-
-// A cause, or an operation's code that names none.
-#[derive(Clone, Copy)]
-pub enum CauseForm {
-    Known(FirstCause),
-    Unknown,
-}
-
 // The request in 9 words.
 pub fn request_of(w: &[u64; 9]) -> Request
     ensures { result ≡ request_in w.now }
@@ -75,14 +47,10 @@ pub fn opening_of(w: &[u64; 13]) -> Opening
 }
 
 // An OS error, or none.
-fn error_of(has: bool, raw: u32) -> OsError
+fn error_of(has: bool, raw: u32) -> Option<OsError>
     ensures { result ≡ error_of has raw }
 {
-    if has {
-        OsError::Raw(raw)
-    } else {
-        OsError::None
-    }
+    has.then_some(raw)
 }
 
 // A cause.
@@ -95,56 +63,56 @@ fn cause_of(op: u64, has: bool, raw: u32) -> FirstCause
     }
 }
 
-// An answer, by its form.
-pub fn answer_form(form: u64, count: u64, raw: u32, media: bool) -> AnswerForm
+// An answer, by its form; none where the form names none.
+pub fn answer_form(form: u64, count: u64, raw: u32, media: bool) -> Option<Answer>
     ensures { result ≡ answer_form form count raw media }
 {
     match form {
-        0 => AnswerForm::Known(Answer::Count(count)),
-        1 => AnswerForm::Known(Answer::Error { raw, media }),
-        2 => AnswerForm::Known(Answer::Refused),
-        3 => AnswerForm::Known(Answer::RefusedWith { raw, media }),
-        _ => AnswerForm::Unknown,
+        0 => Some(Answer::Count(count)),
+        1 => Some(Answer::Error { raw, media }),
+        2 => Some(Answer::Refused),
+        3 => Some(Answer::RefusedWith { raw, media }),
+        _ => None,
     }
 }
 
-// A flush result, by its form.
-pub fn flushed_form(form: u64, need: u64, op: u64, has: bool, raw: u32) -> FlushedForm
+// A flush result, by its form; none where the form or the operation's code names none.
+pub fn flushed_form(form: u64, need: u64, op: u64, has: bool, raw: u32) -> Option<Flushed>
     ensures { result ≡ flushed_form form need op has raw }
 {
     if form == 0 {
-        return FlushedForm::Known(Flushed::Need(need));
+        return Some(Flushed::Need(need));
     }
     if 4 <= op {
-        return FlushedForm::Unknown;
+        return None;
     }
     let cause = cause_of(op, has, raw);
     match form {
-        1 => FlushedForm::Known(Flushed::Unknown(cause)),
-        2 => FlushedForm::Known(Flushed::Poisoned(cause)),
-        _ => FlushedForm::Unknown,
+        1 => Some(Flushed::Unknown(cause)),
+        2 => Some(Flushed::Poisoned(cause)),
+        _ => None,
     }
 }
 
-// A gate, by its code.
-pub fn gate_form(gate: u64) -> GateForm
+// A gate, by its code; none where the code names none.
+pub fn gate_form(gate: u64) -> Option<Gate>
     ensures { result ≡ gate_form gate }
 {
     match gate {
-        0 => GateForm::Known(Gate::Open),
-        1 => GateForm::Known(Gate::Recycled),
-        2 => GateForm::Known(Gate::Released),
-        _ => GateForm::Unknown,
+        0 => Some(Gate::Open),
+        1 => Some(Gate::Recycled),
+        2 => Some(Gate::Released),
+        _ => None,
     }
 }
 
-// A cause, by its operation's code.
-pub fn cause_form(op: u64, has: bool, raw: u32) -> CauseForm
+// A cause, by its operation's code; none where that names none.
+pub fn cause_form(op: u64, has: bool, raw: u32) -> Option<FirstCause>
     ensures { result ≡ cause_form op has raw }
 {
     if op < 4 {
-        CauseForm::Known(cause_of(op, has, raw))
+        Some(cause_of(op, has, raw))
     } else {
-        CauseForm::Unknown
+        None
     }
 }

@@ -4,7 +4,7 @@ ghost use Rattle.completion.specs.Told.{told_values};
 ghost use Rattle.abi.specs.ReplyWords.{filled, values_words, reply_words, unknown_words};
 
 use completion::refusals::Told;
-use completion::{Buffer, Completion, Context, Range, Refusal, Reply};
+use completion::{Completion, Context, Held, Range, Refusal, Reply};
 use domain::{FirstCause, Op, OsError};
 
 // One word and those that follow it, with zeros behind.
@@ -29,13 +29,11 @@ fn context_words(c: Context) -> [u64; 4]
 fn cause_words(f: FirstCause) -> [u64; 4]
     ensures { result ≡ values_words (told_values (Told.Cause f)) }
 {
-    let op = f.op;
-    let raw = f.raw;
     [
         3,
-        memory::causes::op_word(op),
-        memory::causes::has_word(raw),
-        memory::causes::raw_word(raw),
+        memory::causes::op_word(f.op),
+        memory::causes::has_word(f.raw),
+        memory::causes::raw_word(f.raw),
     ]
 }
 
@@ -61,17 +59,17 @@ fn away_words(f: Refusal) -> [u64; 17]
 }
 
 // A first piece that is refused.
-fn rejected_words(r: Range, op: Op, raw: OsError, buf: Buffer) -> [u64; 17]
+fn rejected_words(r: Range, op: Op, raw: Option<OsError>, buf: Option<Held>) -> [u64; 17]
     ensures { result ≡ reply_words (Reply.Rejected r op raw buf) }
 {
     let o = memory::causes::op_word(op);
     let h = memory::causes::has_word(raw);
     let e = memory::causes::raw_word(raw);
     match buf {
-        Buffer::Back { buffer, len } => [
+        Some(Held { buffer, len }) => [
             3, r.region, r.start.0, r.end.0, o, h, e, 1, buffer, len, 0, 0, 0, 0, 0, 0, 0,
         ],
-        Buffer::Lost => [
+        None => [
             3, r.region, r.start.0, r.end.0, o, h, e, 0, 0, 0, 0, 0, 0, 0, 0, 0, 0,
         ],
     }

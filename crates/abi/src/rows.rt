@@ -112,8 +112,7 @@ fn awaits_words(awaits: Awaits) -> [u64; 10]
 fn words_of(row: Row) -> [u64; 16]
     ensures { (result ≡ words_of row) × RowFits row }
 {
-    let awaits = row.awaits;
-    let a = awaits_words(awaits);
+    let a = awaits_words(row.awaits);
     let durable = memory::flag_word(row.durable);
     [
         row.generation as u64,
@@ -152,6 +151,6 @@ pub fn clear(words: &mut [u64], depth: usize)
     ensures { (rows_in words.new ≡ rows_opened (min depth (length (rows_in words.old))) (rows_in words.old)) ×
         (words.new ≡ rows_cleared (min depth (length words.old / 16)) words.old) }
 {
-    let n = layout::lesser(depth, words.len() / 16);
+    let n = depth.min(words.len() / 16);
     memory::fill::zeros(words, 16 * n);
 }

@@ -3,7 +3,8 @@ use Rattle.std.proofs.Common.{◌≡◌, ℕ, ◌^◌, ◌<◌, ◌≤◌, Bool,
 use lib.Seq.{set-get_or}
 use Rattle.layout.specs.Pick.{pick}
 use Rattle.layout.proofs.Tests.{not_both, true_or_false, and_left, and_right}
-use Rattle.domain.specs.declared.Poisoned.{Poisoned}
+use Rattle.std.specs.declared.option.Option.{Option}
+use Rattle.domain.specs.declared.FirstCause.{FirstCause}
 use Rattle.platform.specs.declared.Answer.{Answer}
 use Rattle.platform.specs.declared.Flushed.{Flushed}
 use Rattle.completion.specs.declared.Refusal.TheVariants.{UnknownTag}
@@ -152,7 +153,7 @@ module _ (c : Counts) (rows : List Row) (store free ready owners pool : List ℕ
           (subst (λ (x : Opening). Parts f x g r store' free' ready' owners' pool') o_same k)
 
     -- what the values tell is what the rules say of the table's operation
-    told : (i : Sound s) (known : known_as o row t ≡ true) (input : Input) (first : Poisoned) → first ≡ poison_in store
+    told : (i : Sound s) (known : known_as o row t ≡ true) (input : Input) (first : Option FirstCause) → first ≡ poison_in store
         → fate_by f (bytes_at s row.buffer) ≡ rules o (plan_with g (region_at s row.handle).map) g.forced first row (bytes_at s row.buffer) input
         → fate_by f (bytes_at s row.buffer) ≡ fate_of s row input
     unfolding fate_of state_in live_of

@@ -1,8 +1,9 @@
 -- Nothing past what the table needs is written, and no length changes, whatever becomes of an operation.
 use Rattle.std.proofs.Common.{◌≡◌, ℕ, ◌+◌, ◌-◌, ◌*◌, ◌<◌, ◌≤◌, List, length, drop, set, sym, refl, ap, ◌∙◌, arith, length-set, drop-drop, drop-set-lt}
 use Rattle.iobuf.proofs.Laws.{turn_laws}
-use Rattle.domain.specs.declared.Poisoned.{Poisoned}
-use Rattle.domain.specs.declared.Poisoned.TheVariants.{Never, First}
+use Rattle.std.specs.declared.option.Option.{Option}
+use Rattle.std.specs.declared.option.Option.TheVariants.{None, Some}
+use Rattle.domain.specs.declared.FirstCause.{FirstCause}
 use Rattle.model.specs.declared.Counts.{Counts}
 use Rattle.model.specs.declared.Row.{Row}
 use Rattle.model.specs.Memory.{lengths_of, settings_in}
@@ -27,10 +28,10 @@ as_is n xs = record { long = refl; behind = refl }
 set_kept : (n : ℕ) (xs : List ℕ) (k x : ℕ) → k < n → Kept n (set xs k x) xs
 set_kept n xs k x low = record { long = length-set xs k x; behind = drop-set-lt n xs k x low }
 
-poison_kept : (n : ℕ) (p : Poisoned) (store : List ℕ) → Kept (48 + 70 * n) (poisoned_by p store) store
+poison_kept : (n : ℕ) (p : Option FirstCause) (store : List ℕ) → Kept (48 + 70 * n) (poisoned_by p store) store
 unfolding poisoned_by
-poison_kept n Never store = as_is (48 + 70 * n) store
-poison_kept n (First cause) store =
+poison_kept n None store = as_is (48 + 70 * n) store
+poison_kept n (Some cause) store =
     let e = poison_laws.beyond cause store in
     record { long = e.0; behind = sym (drop-drop (70 * n) 48 _) ∙ ap (drop (70 * n)) e.1 ∙ drop-drop (70 * n) 48 store }
 

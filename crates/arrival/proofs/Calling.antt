@@ -3,8 +3,8 @@ use Rattle.std.proofs.Common.{◌≡◌, ℕ, ◌^◌, ◌<◌, true, false, ◌
 use lib.Seq.{set-get_or}
 use Rattle.layout.specs.Pick.{pick}
 use Rattle.layout.proofs.Tests.{not_both}
-use Rattle.domain.specs.declared.OsError.{OsError}
-use Rattle.completion.specs.declared.Buffer.{Buffer}
+use Rattle.std.specs.declared.option.Option.{Option}
+use Rattle.completion.specs.Buffers.{Buffer}
 use Rattle.completion.specs.declared.Refusal.{Refusal}
 use Rattle.completion.specs.declared.Reply.{Reply}
 use Rattle.completion.specs.declared.Reply.TheVariants.{No as turnedAway}
@@ -48,7 +48,7 @@ asks_on Nothing store row t reply asks = ap is_away asks
 asks_on (Piece k s) store row t reply asks = ap is_away asks.reply
 asks_on (Flush ticket) store row t reply asks = ap is_away asks
 
-rejects : (g : Plan) (a : Awaits) (e : OsError) (b : Buffer) → AwaitsPiece a → is_away (rejection g a e b) ≡ false
+rejects : (g : Plan) (a : Awaits) (e : Option ℕ) (b : Buffer) → AwaitsPiece a → is_away (rejection g a e b) ≡ false
 unfolding rejection is_away AwaitsPiece
 rejects g Nothing e b w = absurd w
 rejects g (Piece k s) e b w = refl

@@ -1,7 +1,7 @@
 -- What becomes of an operation is carried into the table, case by case.
 use Rattle.std.proofs.Common.{◌≡◌, ℕ, List, set, sym, refl, subst}
-use Rattle.domain.specs.declared.OsError.{OsError}
-use Rattle.completion.specs.declared.Buffer.{Buffer}
+use Rattle.std.specs.declared.option.Option.{Option}
+use Rattle.completion.specs.Buffers.{Buffer}
 use Rattle.completion.specs.declared.Refusal.{Refusal}
 use Rattle.model.specs.declared.Awaits.{Awaits}
 use Rattle.model.specs.declared.Counts.{Counts}
@@ -37,7 +37,7 @@ next_carried f a by known t row o g c store free ready owners pool r pool' is tu
     known_carried f (Next a by) known t row o g c store free ready owners pool r store free ready owners pool'
     (record { touched_is = is; store_is = refl; free_is = refl; ready_is = refl; owners_is = refl; pool_is = turned })
 
-pub rejected_carried : (f : Finished) (e : OsError) (b : Buffer) → f ≡ Rejected e b → (t : ℕ) (row : Row) (o : Opening) (g : LiveRegion) (c : Counts) (store free ready owners pool : List ℕ) (r : Touched) (free' owners' : List ℕ)
+pub rejected_carried : (f : Finished) (e : Option ℕ) (b : Buffer) → f ≡ Rejected e b → (t : ℕ) (row : Row) (o : Opening) (g : LiveRegion) (c : Counts) (store free ready owners pool : List ℕ) (r : Touched) (free' owners' : List ℕ)
     → TouchedBy (Rejected e b) t row g store r → free' ≡ pushed c.live (row_of t) free → owners' ≡ set owners row.buffer (owner_word 0 b)
     → Carried f t row o g c store free ready owners pool r store free' ready owners' pool
 unfolding store_by free_by ready_by owners_by pool_by

@@ -2,10 +2,11 @@
 use Rattle.std.proofs.Common.{◌≡◌, ℕ, zero, suc, ◌-◌, ◌<◌, ◌≤◌, List, [], ◌∷◌, map, length, take, drop, set, refl, ap, ◌∙◌, arith, length-take}
 use lib.Seq.{take-set-lt}
 use Rattle.layout.specs.Pick.{pick}
-use Rattle.domain.specs.declared.Poisoned.{Poisoned}
-use Rattle.domain.specs.declared.Poisoned.TheVariants.{Never, First}
-use Rattle.completion.specs.declared.Buffer.{Buffer}
-use Rattle.completion.specs.declared.Buffer.TheVariants.{Back, Lost}
+use Rattle.std.specs.declared.option.Option.{Option}
+use Rattle.std.specs.declared.option.Option.TheVariants.{None, Some}
+use Rattle.domain.specs.declared.FirstCause.{FirstCause}
+use Rattle.completion.specs.Buffers.{Buffer}
+use Rattle.std.specs.declared.option.Option.TheVariants.{Some as Back, None as Lost}
 use Rattle.model.specs.declared.Counts.{Counts}
 use Rattle.model.specs.State.{Owner.host, Owner.table}
 use Rattle.model.specs.Memory.{Lent, ErrorFits, poison_in, owner_in, state_in}
@@ -46,23 +47,23 @@ owner_set n b word owners among = ap (map owner_in) (take-set-lt n owners b word
 -- the owner's word says who has a buffer
 pub kept_table : (b : Buffer) → owner_in (owner_word 1 b) ≡ kept_by table b
 unfolding owner_in owner_word kept_by pick
-kept_table (Back b n) = refl
+kept_table (Back h) = refl
 kept_table Lost = refl
 
 pub kept_host : (b : Buffer) → owner_in (owner_word 0 b) ≡ kept_by host b
 unfolding owner_in owner_word kept_by pick
-kept_host (Back b n) = refl
+kept_host (Back h) = refl
 kept_host Lost = refl
 
 -- ---- the poison
 
 -- a cause, if there is one, has an error of 32 bits
-unfoldable pub CauseFits : Poisoned → Type 0
-CauseFits Never = Unit {0}
-CauseFits (First cause) = ErrorFits cause.raw
+unfoldable pub CauseFits : Option FirstCause → Type 0
+CauseFits None = Unit {0}
+CauseFits (Some cause) = ErrorFits cause.raw
 
-pub poison_in_lem : (c : Counts) (l : Lent) (p : Poisoned) → 48 ≤ length l.store → CauseFits p
+pub poison_in_lem : (c : Counts) (l : Lent) (p : Option FirstCause) → 48 ≤ length l.store → CauseFits p
     → state_in c (with_store l (poisoned_by p l.store)) ≡ with_poison (state_in c l) (poison_with (poison_in l.store) (cause_is p))
 unfolding poisoned_by poison_with cause_is CauseFits with_poison state_in
-poison_in_lem c l Never long fits = refl
-poison_in_lem c l (First cause) long fits = poison_laws.poisoned c l cause long fits
+poison_in_lem c l None long fits = refl
+poison_in_lem c l (Some cause) long fits = poison_laws.poisoned c l cause long fits

@@ -1,7 +1,8 @@
 -- Only an operation that awaits a piece is rejected.
 use Rattle.std.proofs.Common.{◌≡◌, refl}
-use Rattle.domain.specs.declared.OsError.{OsError}
-use Rattle.completion.specs.declared.Buffer.{Buffer}
+use Rattle.std.specs.declared.option.Option.{Option}
+use Prim.Native.Nat.{ℕ}
+use Rattle.completion.specs.Buffers.{Buffer}
 use Rattle.completion.specs.declared.Refusal.TheVariants.{NotAwaited}
 use Rattle.completion.specs.declared.Reply.{Reply}
 use Rattle.completion.specs.declared.Reply.TheVariants.{No}
@@ -13,7 +14,7 @@ use Rattle.model.specs.Opening.{Plan}
 use Rattle.step.specs.Step.{rejection}
 
 -- only an operation that awaits a piece is rejected
-pub not_piece : (g : Plan) (a : Awaits) (e : OsError) (b : Buffer) → ((k : Kind) (s : Split) → a ≡ Piece k s → ⊥) → ◌≡◌ {A = Reply} (No NotAwaited) (rejection g a e b)
+pub not_piece : (g : Plan) (a : Awaits) (e : Option ℕ) (b : Buffer) → ((k : Kind) (s : Split) → a ≡ Piece k s → ⊥) → ◌≡◌ {A = Reply} (No NotAwaited) (rejection g a e b)
 unfolding rejection
 not_piece g Nothing e b w = refl
 not_piece g (Piece k s) e b w = absurd (w k s refl)

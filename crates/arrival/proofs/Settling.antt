@@ -6,9 +6,10 @@ use Rattle.regionmap.specs.Found.{wrap64}
 use Rattle.iobuf.specs.Turn.{stretch, with_stretch}
 use Rattle.iobuf.specs.TurnLaws.{Fits}
 use Rattle.iobuf.proofs.Laws.{turn_laws}
-use Rattle.domain.specs.declared.Poisoned.{Poisoned}
+use Rattle.std.specs.declared.option.Option.{Option}
+use Rattle.domain.specs.declared.FirstCause.{FirstCause}
 use Rattle.completion.specs.declared.Outcome.{Outcome}
-use Rattle.completion.specs.declared.Buffer.{Buffer}
+use Rattle.completion.specs.Buffers.{Buffer}
 use Rattle.completion.specs.declared.Completion.{Completion}
 use Rattle.model.specs.declared.Counts.{Counts}
 use Rattle.model.specs.declared.Awaits.{Awaits}
@@ -103,7 +104,7 @@ module _ (c : Counts) (rows : List Row) (store free ready owners pool : List ℕ
       (stretch capacity row.buffer pool) pool (sym (turn_laws.filled_own capacity row.buffer pool))
 
   -- it is over: its completion is ready
-  module _ (o : Outcome) (b : Buffer) (t : Turn) (cause : Poisoned) (completion-fits : CompletionFits (settings_in store) (completion_of row o b)) (cause_fits : CauseFits cause) where
+  module _ (o : Outcome) (b : Buffer) (t : Turn) (cause : Option FirstCause) (completion-fits : CompletionFits (settings_in store) (completion_of row o b)) (cause_fits : CauseFits cause) where
     abbrev done : Completion
     done = completion_of row o b
 

@@ -2,10 +2,11 @@
 use Rattle.std.proofs.Common.{◌≡◌, ℕ, ◌^◌, ◌<◌, true, List, get_or, set, sym, ap, ◌∙◌}
 use lib.Seq.{set-get_or}
 use Rattle.layout.specs.Pick.{pick}
-use Rattle.domain.specs.declared.Poisoned.{Poisoned}
-use Rattle.domain.specs.declared.Poisoned.TheVariants.{Never, First}
+use Rattle.std.specs.declared.option.Option.{Option}
+use Rattle.std.specs.declared.option.Option.TheVariants.{None, Some}
+use Rattle.domain.specs.declared.FirstCause.{FirstCause}
 use Rattle.completion.specs.declared.Outcome.{Outcome}
-use Rattle.completion.specs.declared.Buffer.{Buffer}
+use Rattle.completion.specs.Buffers.{Buffer}
 use Rattle.completion.specs.declared.Reply.{Reply}
 use Rattle.completion.specs.declared.Reply.TheVariants.{No as turnedAway, Done}
 use Rattle.model.specs.declared.Counts.{Counts}
@@ -33,10 +34,10 @@ use Rattle.arrival.proofs.Holding.{held, in_table}
 use Rattle.arrival.proofs.Wording.{SomeFits, FateWords}
 use Rattle.arrival.proofs.Replies.{asked}
 
-cause_is_lem : (p : Poisoned) → SomeFits (cause_is p) → CauseFits p
+cause_is_lem : (p : Option FirstCause) → SomeFits (cause_is p) → CauseFits p
 unfolding SomeFits cause_is CauseFits
-cause_is_lem Never fits = tt
-cause_is_lem (First cause) fits = fits
+cause_is_lem None fits = tt
+cause_is_lem (Some cause) fits = fits
 
 completes : (o : Opening) (row : Row) (x : Outcome) (b : Buffer) → OutcomeFits o x → CompletionFits o (completion_of row x b)
 unfolding completion_of

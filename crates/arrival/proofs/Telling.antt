@@ -1,7 +1,8 @@
 -- Only an operation whose first piece is refused is rejected: a flush result rejects nothing, and an answer none that awaits no piece.
 use Rattle.std.proofs.Common.{◌≡◌, ℕ, Bool, List, [], sym, subst}
 use Rattle.regionmap.specs.Map.{Map}
-use Rattle.domain.specs.declared.Poisoned.{Poisoned}
+use Rattle.std.specs.declared.option.Option.{Option}
+use Rattle.domain.specs.declared.FirstCause.{FirstCause}
 use Rattle.platform.specs.declared.Answer.{Answer}
 use Rattle.platform.specs.declared.Flushed.{Flushed}
 use Rattle.model.specs.declared.Opening.{Opening}
@@ -36,7 +37,7 @@ flush_rejects o row bytes result a (Next now t) b e = tt
 flush_rejects o row bytes result a (Ended end) b e = tt
 flush_rejects o row bytes result a (Rejected err buf) b e = absurd (subst Kept (sym e) (flush_keeps o row bytes result a))
 
-pub answer_rejects : (o : Opening) (g : LiveRegion) (m : Map) (first : Poisoned) (row : Row) (piece : ℕ) (answer : Answer) (back : Bool) (flushes : ℕ) (f : Finished) (a : Awaits)
+pub answer_rejects : (o : Opening) (g : LiveRegion) (m : Map) (first : Option FirstCause) (row : Row) (piece : ℕ) (answer : Answer) (back : Bool) (flushes : ℕ) (f : Finished) (a : Awaits)
     → (PieceFits g m piece a → Tells f (λ bytes. answer_rules o (plan_with g m) g.forced first row bytes answer back flushes a)) → RejectsPiece f a
 unfolding RejectsPiece PieceFits AwaitsPiece answer_rules fate_by
 answer_rejects o g m first row piece answer back flushes (Away f) a tells = tt

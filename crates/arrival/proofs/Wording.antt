@@ -2,15 +2,15 @@
 use Rattle.std.proofs.Common.{◌≡◌, ℕ, ◌^◌, ◌<◌, Bool, ◌||◌, List, get_or, sym, refl, subst, mod-lt, arith}
 use mathlib.Core.Option.{Option, none, some}
 use Rattle.domain.specs.declared.FirstCause.{FirstCause}
-use Rattle.domain.specs.declared.Poisoned.{Poisoned}
-use Rattle.domain.specs.declared.Poisoned.TheVariants.{Never, First}
+use Rattle.std.specs.declared.option.Option.{Option as StdOption}
+use Rattle.std.specs.declared.option.Option.TheVariants.{None, Some}
 use Rattle.platform.specs.declared.Answer.{Answer}
 use Rattle.platform.specs.declared.Answer.TheVariants.{Count, Error, Refused, RefusedWith}
 use Rattle.platform.specs.declared.Flushed.{Flushed}
 use Rattle.platform.specs.declared.Flushed.TheVariants.{Need, Unknown as unsure, Poisoned as failedBy}
 use Rattle.completion.specs.declared.WriteTicket.{WriteTicket}
 use Rattle.completion.specs.declared.Range.{Range}
-use Rattle.completion.specs.declared.Buffer.{Buffer}
+use Rattle.completion.specs.Buffers.{Buffer}
 use Rattle.model.specs.declared.Opening.{Opening}
 use Rattle.model.specs.declared.Kind.{Kind}
 use Rattle.model.specs.declared.Kind.TheVariants.{Page, Read}
@@ -87,10 +87,10 @@ module _ (o : Opening) where
   read_fits r s Refused back fits = tt
   read_fits r s (RefusedWith e media) back fits = failed_fits r e media fits
 
-  unflushed_fits : (first : Poisoned) (t : WriteTicket) → CauseFits first → TicketOf o t → OutcomeFits o (unflushed o first t)
+  unflushed_fits : (first : StdOption FirstCause) (t : WriteTicket) → CauseFits first → TicketOf o t → OutcomeFits o (unflushed o first t)
   unfolding unflushed OutcomeFits CauseFits receipt_made
-  unflushed_fits Never t cause ticket = (ticket, refl)
-  unflushed_fits (First x) t cause ticket = cause
+  unflushed_fits None t cause ticket = (ticket, refl)
+  unflushed_fits (Some x) t cause ticket = cause
 
   flush_fits : (t : WriteTicket) (result : Flushed) → TicketOf o t → ResultFits result → OutcomeFits o (flush_outcome o t result)
   unfolding flush_outcome OutcomeFits ResultFits receipt_made
@@ -98,7 +98,7 @@ module _ (o : Opening) where
   flush_fits t (unsure cause) ticket fits = fits
   flush_fits t (failedBy cause) ticket fits = fits
 
-  module _ (g : Plan) (forced : Bool) (first : Poisoned) (r : Row) (bytes : List ℕ) (generation : g.generation < 2 ^ 32) (cause : CauseFits first) where
+  module _ (g : Plan) (forced : Bool) (first : StdOption FirstCause) (r : Row) (bytes : List ℕ) (generation : g.generation < 2 ^ 32) (cause : CauseFits first) where
     ticket_fits : (k : Kind) (flushes : ℕ) → TicketOf o (ticket_of o g k flushes)
     unfolding ticket_of
     ticket_fits k flushes = record { volume = refl; epoch = refl; generation = generation }

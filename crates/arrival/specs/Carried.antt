@@ -5,8 +5,11 @@ use Rattle.regionmap.specs.declared.FoundPiece.{FoundPiece}
 use Rattle.regionmap.specs.Map.{Map}
 use Rattle.regionmap.specs.Found.{wrap64}
 use Rattle.iobuf.specs.Turn.{turned_in}
-use Rattle.domain.specs.declared.Poisoned.{Poisoned}
-use Rattle.completion.specs.declared.{Buffer.Buffer, Reply.Reply}
+use Rattle.std.specs.declared.option.Option.{Option}
+use Rattle.domain.specs.declared.FirstCause.{FirstCause}
+use Rattle.completion.specs.declared.Reply.{Reply}
+use Rattle.completion.specs.Buffers.{Buffer}
+use Rattle.std.specs.declared.option.Option.TheVariants.{Some as Back, None as Lost}
 use Rattle.model.specs.declared.{Counts.Counts, Opening.Opening, Kind.Kind, Split.Split, Awaits.Awaits, Row.Row}
 use Rattle.model.specs.State.{freed}
 use Rattle.step.specs.Rules.{first_of}
@@ -31,12 +34,12 @@ pushed live row free = pick (nat_lt 0 live) (slice_set free (live - 1) row) free
 
 -- the owner's word of a buffer: the given one if it came back, else 2, lost
 unfoldable pub owner_word : ℕ → Buffer → ℕ
-owner_word back (Buffer.Back b n) = back
-owner_word back Buffer.Lost = 2
+owner_word back (Back h) = back
+owner_word back Lost = 2
 
-unfoldable pub poisoned_by : Poisoned → List ℕ → List ℕ
-poisoned_by Poisoned.Never store = store
-poisoned_by (Poisoned.First cause) store = poisoned_in cause store
+unfoldable pub poisoned_by : Option FirstCause → List ℕ → List ℕ
+poisoned_by Option.None store = store
+poisoned_by (Option.Some cause) store = poisoned_in cause store
 
 -- the parts of the row memory and the pool, by what becomes of the operation
 unfoldable pub store_by : Finished → List ℕ → List ℕ

@@ -3,3 +3,4 @@ pub mod Carried
 pub mod UnderWay
 pub mod Taking
 pub mod Arrived
+pub mod Lent

@@ -1,6 +1,7 @@
 -- What a taking leaves.
 use Rattle.std.specs.Prelude.{ℕ, List, slice_set}
-use Rattle.completion.specs.declared.Buffer.{Buffer}
+use Rattle.completion.specs.Buffers.{Buffer}
+use Rattle.std.specs.declared.option.Option.TheVariants.{Some as Back, None as Lost}
 use Rattle.model.specs.declared.{Counts.Counts, Row.Row}
 use Rattle.model.specs.declared.Call.TheVariants as Call
 use Rattle.optable.specs.declared.touched.Touched.{Touched}
@@ -8,8 +9,8 @@ use Rattle.optable.specs.Called.{ArmTo}
 
 -- "taking one gives its buffer back, if it came back": 0 is the host
 unfoldable pub back_in : Buffer → List ℕ → List ℕ
-back_in (Buffer.Back b n) owners = slice_set owners b 0
-back_in Buffer.Lost owners = owners
+back_in (Back h) owners = slice_set owners h.buffer 0
+back_in Lost owners = owners
 
 -- a taking, of any table whose parts these words are: only the completions and the owners change
 abbrev pub TakesTo : Row → Counts → List ℕ → List ℕ → List ℕ → Touched → List ℕ → List ℕ → Type 0

@@ -3,7 +3,8 @@ use Rattle.std.specs.Prelude.{◌≡◌, ℕ, ◌+◌, ◌-◌, ◌≤◌, Bool,
 use Rattle.regionmap.specs.declared.FoundPiece.{FoundPiece}
 use Rattle.regionmap.specs.Map.{Map}
 use Rattle.regionmap.specs.Found.{wrap64}
-use Rattle.domain.specs.declared.Poisoned.{Poisoned}
+use Rattle.std.specs.declared.option.Option.{Option}
+use Rattle.domain.specs.declared.FirstCause.{FirstCause}
 use Rattle.platform.specs.declared.{Answer.Answer, Flushed.Flushed}
 use Rattle.completion.specs.declared.Refusal.TheVariants as Refusal
 use Rattle.model.specs.declared.{Opening.Opening, Kind.Kind, Split.Split, Awaits.Awaits, Row.Row}
@@ -34,7 +35,7 @@ known_as o row t = nat_lt (row_of t) o.depth && names row t
 -- what the rules say
 pub record AnswerIn (o : Opening) (g : LiveRegion) (row : Row) (answer : Answer) (back : Bool) (flushes : ℕ)
     (store : List ℕ) (f : Finished) : Type 0 where
-  pub first : Poisoned
+  pub first : Option FirstCause
   pub first_is : HEAD ≤ length store → first ≡ poison_in store
   pub piece : ℕ
   pub under_way : UnderWay store row.handle row.awaits piece
@@ -49,4 +50,4 @@ FinishedIn t o g row answer back flushes store f =
 abbrev pub FlushedIn : ℕ → Opening → Row → Flushed → Finished → Type 0
 FlushedIn t o row result f =
     (known_as o row t ≡ false → f ≡ Finished.Away Refusal.UnknownTag)
-    × (known_as o row t ≡ true → (g : Plan) (forced : Bool) (first : Poisoned) → Tells f (λ bytes. rules o g forced first row bytes (flushed result)))
+    × (known_as o row t ≡ true → (g : Plan) (forced : Bool) (first : Option FirstCause) → Tells f (λ bytes. rules o g forced first row bytes (flushed result)))

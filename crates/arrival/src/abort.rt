@@ -6,7 +6,7 @@ ghost use Rattle.step.specs.Step.{row_of, rejection as rejectionOf};
 ghost use Rattle.arrival.specs.Carried.{pushed, owner_word, TouchedBy};
 ghost use Rattle.settle.specs.declared.Finished.TheVariants as Finished;
 
-use completion::{Buffer, Range, Refusal, Reply};
+use completion::{Held, Range, Refusal, Reply};
 use domain::{Op, OsError};
 use memory::liveregion::LiveRegion;
 use model::{Awaits, Kind, Row};
@@ -14,7 +14,7 @@ use optable::Frees;
 use optable::touched::Touched;
 
 // The reply to a refused first piece: the host gets Io or QueueFull, the range, and its buffer.
-fn reject(id: u64, kind: Kind, raw: OsError, buf: Buffer) -> Reply
+fn reject(id: u64, kind: Kind, raw: Option<OsError>, buf: Option<Held>) -> Reply
     ensures { (g : Plan) → g.id ≡ id → result ≡ Reply.Rejected (range_of g kind) (op_of kind) raw buf }
 {
     match kind {
@@ -42,7 +42,7 @@ fn reject(id: u64, kind: Kind, raw: OsError, buf: Buffer) -> Reply
 }
 
 // .. of a row that awaits a piece; only such a row's is refused.
-fn rejection(id: u64, awaits: Awaits, raw: OsError, buf: Buffer) -> Reply
+fn rejection(id: u64, awaits: Awaits, raw: Option<OsError>, buf: Option<Held>) -> Reply
     ensures { (g : Plan) → g.id ≡ id → result ≡ rejectionOf g awaits raw buf }
 {
     match awaits {
@@ -53,8 +53,8 @@ fn rejection(id: u64, awaits: Awaits, raw: OsError, buf: Buffer) -> Reply
 
 // Its first piece was refused (abort): its row is free again at the same generation, and the host gets its buffer.
 pub fn abort(
-    raw: OsError,
-    buf: Buffer,
+    raw: Option<OsError>,
+    buf: Option<Held>,
     qtag: u64,
     row: Row,
     g: LiveRegion,
@@ -68,11 +68,10 @@ pub fn abort(
 {
     crate::release::push(free, live, qtag % 0x1_0000_0000);
     crate::release::own(owners, row.buffer, 0, buf);
-    let awaits = row.awaits;
     Touched {
         row: optable::freed_row(row.generation),
         accepts: false,
         frees: Frees::Rejected,
-        reply: rejection(g.id, awaits, raw, buf),
+        reply: rejection(g.id, row.awaits, raw, buf),
     }
 }

@@ -34,8 +34,8 @@ fn first_of(kind: Kind) -> Position
     ensures { result ≡ first_of kind }
 {
     match kind {
-        Kind::Page { start, end: _ } => start,
-        Kind::Read { start, end: _ } => start,
+        Kind::Page { start, .. } => start,
+        Kind::Read { start, .. } => start,
     }
 }
 
@@ -44,7 +44,7 @@ pub fn piece_of(store: &[u64], handle: u64, kind: Kind, s: Split) -> FoundPiece
     ensures { PieceIn store.now handle (wrap64 ((first_of kind).0 + s.done)) (s.total - s.done) result }
 {
     let start = first_of(kind);
-    let at = Position(std::num::wrapping_add_u64(start.0, s.done));
+    let at = Position(start.0.wrapping_add(s.done));
     memory::piece::first_piece(store, handle, at, settle::left(s))
 }
 
@@ -53,10 +53,9 @@ fn ask_piece(store: &[u64], row: Row, qtag: u64, kind: Kind, s: Split) -> Reply
     ensures { AsksFor store.now row qtag (Awaits.Piece kind s) result }
 {
     let piece = piece_of(store, row.handle, kind, s);
-    let offset = piece.offset;
     Reply::Piece {
         qtag,
-        offset,
+        offset: piece.offset,
         count: piece.count,
         buffer: row.buffer,
     }
@@ -74,18 +73,11 @@ fn asks_for(store: &[u64], row: Row, qtag: u64, awaits: Awaits) -> Reply
 }
 
 // The row as it awaits something else.
+#[tactic(auto, unfolding(step::specs::Step::awaits_now))]
 fn awaits_now(row: Row, awaits: Awaits) -> Row
     ensures { result ≡ awaits_now row awaits }
 {
-    Row {
-        generation: row.generation,
-        tag: row.tag,
-        seq: row.seq,
-        handle: row.handle,
-        buffer: row.buffer,
-        durable: row.durable,
-        awaits,
-    }
+    Row { awaits, ..row }
 }
 
 // An operation goes on: its bytes turn, and it awaits its next piece or its flush.

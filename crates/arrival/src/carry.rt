@@ -1,7 +1,9 @@
 // What becomes of an operation is carried into the table: it is turned away, goes on, is over or is undone (store-io's optable.rs, by Finish).
-ghost use Rattle.arrival.specs.Carried.{Carried};
+ghost use Rattle.memory.specs.Words.{SameWords};
+ghost use Rattle.arrival.specs.Lent.{CarriedIn};
 
 use memory::liveregion::LiveRegion;
+use memory::words::Words;
 use model::{Counts, Opening, Row};
 use optable::touched::Touched;
 use settle::Finished;
@@ -14,24 +16,19 @@ pub fn carry(
     o: Opening,
     g: LiveRegion,
     counts: Counts,
-    store: &mut [u64],
-    free: &mut [u64],
-    ready: &mut [u64],
-    owners: &mut [u64],
+    words: &mut Words,
     pool: &mut [u8],
 ) -> Touched
-    ensures { Carried f qtag row o g counts
-        store.old free.old ready.old owners.old pool.old
-        result store.new free.new ready.new owners.new pool.new }
+    ensures same { SameWords words.old words.new }
+    ensures carried { CarriedIn f qtag row o g counts words.old pool.old result words.new pool.new }
 {
     match f {
         Finished::Away(refusal) => optable::touched::away(row, refusal),
-        Finished::Next { awaits, turn } => crate::advance::go_on(
-            awaits, turn, qtag, row, o.capacity, store, pool,
-        ),
-        Finished::Ended(end) => crate::release::release(
-            end, qtag, row, o, counts, store, free, ready, owners, pool,
-        ),
+        Finished::Next { awaits, turn } => {
+            let store = &mut *words.store;
+            crate::advance::go_on(awaits, turn, qtag, row, o.capacity, store, pool)
+        }
+        Finished::Ended(end) => crate::release::release(end, qtag, row, o, counts, words, pool),
         Finished::Rejected { raw, buf } => crate::abort::abort(
             raw,
             buf,
@@ -39,8 +36,8 @@ pub fn carry(
             row,
             g,
             counts.live,
-            free,
-            owners,
+            words.free,
+            words.owners,
         ),
     }
 }

@@ -17,10 +17,12 @@ pub mod take;
 pub mod underway;
 
 ghost use Rattle.std.specs.Prelude.{◌≡◌};
-ghost use Rattle.optable.specs.Called.{ArmTo};
+ghost use Rattle.memory.specs.Words.{SameWords};
 ghost use Rattle.arrival.specs.Arrived.{arrived_call, BecomesIn};
+ghost use Rattle.arrival.specs.Lent.{ArmIn};
 
 use memory::liveregion::LiveRegion;
+use memory::words::Words;
 use model::{Call, Counts, Opening, Row};
 use optable::touched::Touched;
 use platform::{Answer, Flushed};
@@ -77,18 +79,15 @@ pub fn arrive(
     row: Row,
     counts: Counts,
     rows: usize,
-    store: &mut [u64],
-    free: &mut [u64],
-    ready: &mut [u64],
-    owners: &mut [u64],
+    words: &mut Words,
     pool: &mut [u8],
 ) -> Touched
-    ensures { ArmTo (arrived_call qtag what) row counts rows
-        store.old free.old ready.old owners.old pool.old
-        result store.new free.new ready.new owners.new pool.new }
+    ensures same { SameWords words.old words.new }
+    ensures arm { ArmIn (arrived_call qtag what) row counts rows words.old pool.old result words.new pool.new }
 {
-    let o = memory::settings::settings(store);
-    let g = memory::liveregion::region_at(store, row.handle);
-    let f = becomes(what, qtag, o, g, row, store);
-    crate::carry::carry(f, qtag, row, o, g, counts, store, free, ready, owners, pool)
+    let seen = words.view();
+    let o = memory::settings::settings(seen.store);
+    let g = memory::liveregion::region_at(seen.store, row.handle);
+    let f = becomes(what, qtag, o, g, row, seen.store);
+    crate::carry::carry(f, qtag, row, o, g, counts, words, pool)
 }

@@ -2,14 +2,16 @@
 // restates it).
 ghost use Rattle.std.specs.Prelude.{◌≡◌, slice_set};
 ghost use Rattle.memory.specs.declared.liveregion.LiveRegion.{LiveRegion};
+ghost use Rattle.memory.specs.Words.{SameWords};
 ghost use Rattle.ring.specs.Queue.{published};
 ghost use Rattle.step.specs.Step.{raised, completion_of};
-ghost use Rattle.arrival.specs.Carried.{pushed, owner_word, poisoned_by, Carried};
+ghost use Rattle.arrival.specs.Carried.{pushed, owner_word, poisoned_by};
+ghost use Rattle.arrival.specs.Lent.{CarriedIn};
 ghost use Rattle.settle.specs.declared.Finished.TheVariants as Finished;
 
-use completion::{Buffer, Completion, Outcome, Reply};
-use domain::Poisoned;
-use memory::liveregion::LiveRegion;
+use completion::{Completion, Held, Reply};
+use domain::FirstCause;
+use memory::words::Words;
 use model::{Counts, Opening, Row};
 use optable::Frees;
 use optable::touched::Touched;
@@ -29,17 +31,17 @@ pub fn push(free: &mut [u64], live: u64, row: u64)
 }
 
 // The owner's word of a buffer: `back` if it came back, else 2, lost.
-fn owner_word(back: u64, buf: Buffer) -> u64
+fn owner_word(back: u64, buf: Option<Held>) -> u64
     ensures { result ≡ owner_word back buf }
 {
     match buf {
-        Buffer::Back { buffer: _, len: _ } => back,
-        Buffer::Lost => 2,
+        Some(_) => back,
+        None => 2,
     }
 }
 
 // Who has a buffer, by whether it came back: `back` if it did, else nobody any more.
-pub fn own(owners: &mut [u64], buffer: u64, back: u64, buf: Buffer)
+pub fn own(owners: &mut [u64], buffer: u64, back: u64, buf: Option<Held>)
     ensures { owners.new ≡ slice_set owners.old buffer (owner_word back buf) }
 {
     let word = owner_word(back, buf);
@@ -50,12 +52,11 @@ pub fn own(owners: &mut [u64], buffer: u64, back: u64, buf: Buffer)
 }
 
 // The store is poisoned, if there is a cause.
-fn poison(store: &mut [u64], cause: Poisoned)
+fn poison(store: &mut [u64], cause: Option<FirstCause>)
     ensures { store.new ≡ poisoned_by cause store.old }
 {
-    match cause {
-        Poisoned::Never => {}
-        Poisoned::First(c) => marks::poison::poison(store, c),
+    if let Some(c) = cause {
+        marks::poison::poison(store, c);
     }
 }
 
@@ -63,29 +64,25 @@ fn poison(store: &mut [u64], cause: Poisoned)
 fn next_generation(generation: u32) -> u32
     ensures { result ≡ raised generation }
 {
-    std::num::wrapping_add_u32(generation, 1)
+    generation.wrapping_add(1)
 }
 
 // A completion is ready (publish): who has its buffer, and the store's poison.
-fn complete(
-    outcome: Outcome,
-    buf: Buffer,
-    cause: Poisoned,
-    row: Row,
-    depth: u64,
-    count: u64,
-    store: &mut [u64],
-    ready: &mut [u64],
-    owners: &mut [u64],
-)
-    ensures { (store.new ≡ poisoned_by cause store.old)
-        × (ready.new ≡ published depth count (completion_of row outcome buf) ready.old)
-        × (owners.new ≡ slice_set owners.old row.buffer (owner_word 1 buf)) }
+fn complete(end: End, row: Row, depth: u64, count: u64, words: &mut Words)
+    ensures same { SameWords words.old words.new }
+    ensures store { words.new.store.now ≡ poisoned_by end.cause words.old.store.now }
+    ensures ready { words.new.ready.now ≡ published depth count (completion_of row end.outcome end.buf) words.old.ready.now }
+    ensures owners { words.new.owners.now ≡ slice_set words.old.owners.now row.buffer (owner_word 1 end.buf) }
+    ensures free { words.new.free.now ≡ words.old.free.now }
 {
-    let tag = row.tag;
-    ring::publish::publish(ready, depth, count, Completion { tag, outcome, buf });
-    own(owners, row.buffer, 1, buf);
-    poison(store, cause);
+    let done = Completion {
+        tag: row.tag,
+        outcome: end.outcome,
+        buf: end.buf,
+    };
+    ring::publish::publish(words.ready, depth, count, done);
+    own(words.owners, row.buffer, 1, end.buf);
+    poison(words.store, end.cause);
 }
 
 // An operation is over (release): its bytes turn, its row is free again at the next generation, and its completion is ready.
@@ -95,33 +92,15 @@ pub fn release(
     row: Row,
     o: Opening,
     counts: Counts,
-    store: &mut [u64],
-    free: &mut [u64],
-    ready: &mut [u64],
-    owners: &mut [u64],
+    words: &mut Words,
     pool: &mut [u8],
 ) -> Touched
-    ensures { (g : LiveRegion) → Carried (Finished.Ended end) qtag row o g counts
-        store.old free.old ready.old owners.old pool.old
-        result store.new free.new ready.new owners.new pool.new }
+    ensures same { SameWords words.old words.new }
+    ensures carried { (g : LiveRegion) → CarriedIn (Finished.Ended end) qtag row o g counts words.old pool.old result words.new pool.new }
 {
-    let t = end.turn;
-    let outcome = end.outcome;
-    let buf = end.buf;
-    let cause = end.cause;
-    crate::advance::turn(pool, o.capacity, row.buffer, t);
-    push(free, counts.live, qtag % 0x1_0000_0000);
-    complete(
-        outcome,
-        buf,
-        cause,
-        row,
-        o.depth,
-        counts.ready,
-        store,
-        ready,
-        owners,
-    );
+    crate::advance::turn(pool, o.capacity, row.buffer, end.turn);
+    push(words.free, counts.live, qtag % 0x1_0000_0000);
+    complete(end, row, o.depth, counts.ready, words);
     Touched {
         row: optable::freed_row(next_generation(row.generation)),
         accepts: false,

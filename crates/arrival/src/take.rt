@@ -2,23 +2,23 @@
 ghost use Rattle.std.specs.Prelude.{◌≡◌};
 ghost use Rattle.arrival.specs.Taking.{back_in, TakesTo};
 
-use completion::{Buffer, Reply};
+use completion::{Held, Reply};
 use model::{Counts, Row};
 use optable::Frees;
 use optable::touched::Touched;
 
 // A buffer that came back goes to the host.
-fn give_back(owners: &mut [u64], buf: Buffer)
+fn give_back(owners: &mut [u64], buf: Option<Held>)
     ensures { owners.new ≡ back_in buf owners.old }
 {
     match buf {
-        Buffer::Back { buffer, len: _ } => {
+        Some(Held { buffer, .. }) => {
             let at = buffer as usize;
             if at < owners.len() {
                 owners[at] = 0;
             }
         }
-        Buffer::Lost => {}
+        None => {}
     }
 }
 
@@ -44,8 +44,7 @@ pub fn take(
     let o = memory::settings::settings(store);
     let c = ring::oldest::oldest(ready, o);
     ring::pop(ready, o.depth);
-    let buf = c.buf;
-    give_back(owners, buf);
+    give_back(owners, c.buf);
     Touched {
         row,
         accepts: false,

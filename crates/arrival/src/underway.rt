@@ -14,9 +14,8 @@ use settle::Finished;
 fn named(row: Row, qtag: u64) -> bool
     ensures { result ≡ names row qtag }
 {
-    let awaits = row.awaits;
     let current = row.generation as u64 == qtag / 0x1_0000_0000;
-    match awaits {
+    match row.awaits {
         Awaits::Nothing => false,
         _ => current,
     }
@@ -36,8 +35,7 @@ fn known(o: Opening, row: Row, qtag: u64) -> bool
 fn under_way(store: &[u64], row: Row) -> u64
     ensures { UnderWay store.now row.handle row.awaits result }
 {
-    let awaits = row.awaits;
-    match awaits {
+    match row.awaits {
         Awaits::Piece(kind, split) => crate::advance::piece_of(
             store, row.handle, kind, split,
         ).count,

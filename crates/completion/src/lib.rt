@@ -58,11 +58,11 @@ pub enum Outcome {
     Poisoned(FirstCause),
 }
 
-// The operation's buffer, with its length, or that it did not come back.
+// The operation's buffer, with its length, where it came back.
 #[derive(Clone, Copy)]
-pub enum Buffer {
-    Back { buffer: u64, len: u64 },
-    Lost,
+pub struct Held {
+    pub buffer: u64,
+    pub len: u64,
 }
 
 // One finished operation: the host's tag, what it came to, and its buffer.
@@ -70,7 +70,7 @@ pub enum Buffer {
 pub struct Completion {
     pub tag: u64,
     pub outcome: Outcome,
-    pub buf: Buffer,
+    pub buf: Option<Held>,
 }
 
 // "Context is the region's id. Questions 12 to 14 of a read add the range"; some have none (D-20).
@@ -120,8 +120,8 @@ pub enum Reply {
     Rejected {
         range: Range,
         op: Op,
-        raw: OsError,
-        buf: Buffer,
+        raw: Option<OsError>,
+        buf: Option<Held>,
     },
     // The operation is complete: its completion can be taken.
     Done {

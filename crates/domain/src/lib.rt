@@ -13,40 +13,26 @@ pub enum Op {
     Flush,
 }
 
-// "OS errors are carried as unsigned 32-bit numbers", or there is none.
-#[derive(Clone, Copy)]
-pub enum OsError {
-    None,
-    Raw(u32),
-}
+// "OS errors are carried as unsigned 32-bit numbers".
+pub type OsError = u32;
 
-// A cause; the name is the Rust's, though causes that were not first are of this type too.
+// A cause, with an OS error or none; the name is the Rust's, though causes that were not first are of this type too.
 #[derive(Clone, Copy)]
 pub struct FirstCause {
     pub op: Op,
-    pub raw: OsError,
+    pub raw: Option<OsError>,
 }
 
-// Whether the store is poisoned, and by which cause first.
-#[derive(Clone, Copy)]
-pub enum Poisoned {
-    Never,
-    First(FirstCause),
-}
-
-// The store after a cause: the first cause is kept (Domain::poison).
-pub fn poison(p: Poisoned, cause: FirstCause) -> Poisoned
+// What poisons the store after a cause: the first cause is kept (Domain::poison). Where nothing poisoned it, there is none.
+pub fn poison(p: Option<FirstCause>, cause: FirstCause) -> Option<FirstCause>
     ensures { result ≡ first_kept p cause }
 {
-    match p {
-        Poisoned::Never => Poisoned::First(cause),
-        Poisoned::First(first) => Poisoned::First(first),
-    }
+    Some(p.unwrap_or(cause))
 }
 
 // The flush that a write needs, from the flush count as it completes (Domain::ticket).
 pub fn ticket(flushes: u64) -> u64
     ensures { result ≡ need_after flushes }
 {
-    std::num::wrapping_add_u64(flushes, 1)
+    flushes.wrapping_add(1)
 }

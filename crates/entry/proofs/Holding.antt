@@ -30,7 +30,6 @@ use Rattle.step.proofs.Demand3.{demand3}
 use Rattle.optable.specs.Called.{lent_of}
 use Rattle.optable.specs.Held.{Holds, MakesTo, HoldsNext, Begins, start_at, event}
 use Rattle.optable.proofs.Held.{held_laws, holds_fits, words_say, equal_lengths}
-use Rattle.opening.specs.declared.Opened.{Opened}
 use Rattle.opening.proofs.Admitted.{admitted, counts_fresh, left_is, unopened}
 use Rattle.abi.specs.RowWords.{rows_in}
 use Rattle.abi.specs.ReplyWords.{filled, reply_words, unknown_words}
@@ -41,6 +40,8 @@ use Rattle.entry.specs.Entry.{Parts, AnswersOut, nameless_words, opened_reply, o
 use Rattle.entry.specs.Holding.{lent_of_parts, table_in, HoldsIn, parts_with, Export, Export.makes, Export.nameless, Export.reopens, export_of, Returns, AskedReturns, word_lengths, lengths_lent}
 use Rattle.entry.specs.Holding.{WordTurn, WordTurnFrom, WordTurnsFrom, parts_after, events_for, events_of, history_of, out_for, next_for, WordsAsSteps, WordsHeldFrom, HostHoldsWords}
 use Rattle.entry.specs.Holding.{brings_to, gets_in_words, added_in_words, OneEachInWords, NoMoreInWords, AgreedInWords, Demand3InWords}
+use Rattle.opening.specs.Opened.{Opened}
+use Rattle.std.specs.declared.result.Result.{Result}
 
 -- ---- lengths
 
@@ -96,8 +97,8 @@ module _ (o : Opening) (plan : List ℕ) (lent left : Parts) where
   refused_left : (r : Opened) → OpensWhole o plan lent.rows lent.store lent.free lent.ready lent.owners lent.pool r left.rows left.store left.free left.ready left.owners
       → left.counts ≡ opened_counts r lent.counts → left.pool ≡ lent.pool → reply_words (Reply.No Refusal.Unfit) ≡ reply_words (opened_reply r) → left ≡ lent
   unfolding opened_reply opened_counts
-  refused_left (Opened.Table c) w counts pool e = absurd (refused_says Refusal.Unfit (sym e))
-  refused_left (Opened.No f) w counts pool e = by_case (true_or_false (eqb (length lent.rows % 16) 0))
+  refused_left (Result.Ok c) w counts pool e = absurd (refused_says Refusal.Unfit (sym e))
+  refused_left (Result.Err f) w counts pool e = by_case (true_or_false (eqb (length lent.rows % 16) 0))
     where
       by_case : (eqb (length lent.rows % 16) 0 ≡ true) ⊎ (eqb (length lent.rows % 16) 0 ≡ false) → left ≡ lent
       by_case (inl is) =
@@ -332,7 +333,7 @@ turns_done x (u ∷ us) h p z k =
 
 -- ---- an opening
 
-table_no : (c : Counts) (f : Refusal) → Opened.Table c ≡ Opened.No f → ⊥
+table_no : (c : Counts) (f : Refusal) → ◌≡◌ {A = Opened} (Result.Ok c) (Result.Err f) → ⊥
 table_no c f e = let z : ◌≡◌ {A = ℕ} 0 1 = cc in omega arith
 
 -- a history begins, and is in the words that the opening left
@@ -343,7 +344,7 @@ record Opens (o : Opening) (plan : List ℕ) (p p₀ : Parts) : Type 0 where
   opened : table_in p₀ ≡ opened_by start
 
 module _ (o : Opening) (plan : List ℕ) (p p₀ : Parts) where
-  module _ (c : Counts) (whole : Whole p.rows) (w : OpensInWords o plan p.rows p.store p.free p.ready p.owners p.pool (Opened.Table c) p₀.rows p₀.store p₀.free p₀.ready p₀.owners) (counts : p₀.counts ≡ c.live ∷ c.ready ∷ c.submissions ∷ []) (pool : p₀.pool ≡ p.pool) where
+  module _ (c : Counts) (whole : Whole p.rows) (w : OpensInWords o plan p.rows p.store p.free p.ready p.owners p.pool (Result.Ok c) p₀.rows p₀.store p₀.free p₀.ready p₀.owners) (counts : p₀.counts ≡ c.live ∷ c.ready ∷ c.submissions ∷ []) (pool : p₀.pool ≡ p.pool) where
     abbrev l : Lent
     l = lent_of_parts p
 
@@ -380,8 +381,8 @@ module _ (o : Opening) (plan : List ℕ) (p p₀ : Parts) where
   opened_so : (r : Opened) → OpensWhole o plan p.rows p.store p.free p.ready p.owners p.pool r p₀.rows p₀.store p₀.free p₀.ready p₀.owners
       → p₀.counts ≡ opened_counts r p.counts → p₀.pool ≡ p.pool → reply_words Reply.Ok ≡ reply_words (opened_reply r) → Opens o plan p p₀
   unfolding opened_reply opened_counts
-  opened_so (Opened.No f) w counts pool e = absurd (refused_says f e)
-  opened_so (Opened.Table c) w counts pool e = by_case (true_or_false (eqb (length p.rows % 16) 0))
+  opened_so (Result.Err f) w counts pool e = absurd (refused_says f e)
+  opened_so (Result.Ok c) w counts pool e = by_case (true_or_false (eqb (length p.rows % 16) 0))
     where
       by_case : (eqb (length p.rows % 16) 0 ≡ true) ⊎ (eqb (length p.rows % 16) 0 ≡ false) → Opens o plan p p₀
       by_case (inr e) = absurd (table_no c Refusal.Unfit (w.cut (λ is. not_both (eq-eqb (length p.rows % 16) 0 is) e)).0)

@@ -1,39 +1,34 @@
 -- From what the parts of `open_words` ensure to what it ensures: as of lent records (opening's Opens), with as many rows as the words hold.
 use mathlib.Core.Path.{◌≡◌, refl, sym, ap, ◌∙◌, subst}
 use mathlib.Core.Bool.{Bool, true, false}
-use mathlib.Core.Logic.{◌⊎◌, inl, inr}
 use mathlib.Core.List.{List, ◌++◌}
 use Prim.Native.Nat.{ℕ, ◌+◌, ◌-◌, ◌*◌, ◌/◌, ◌≤◌, min}
-use native.Mathlib.Nat.{min-le_left, min-le_right, zero-min, le_trans}
+use native.Mathlib.Nat.{min-le_left, min-le_right, le_trans}
 use native.Mathlib.Omega.{arith}
 use lib.ListN.{length, drop, replicate, length-replicate}
 use lib.Seq.{drop-drop, drop-append-add}
-use lib.Dec.{eqb}
-use borrow.Author.Tests.{eqb-true}
+use Rattle.std.specs.declared.option.Option.{Option}
+use Rattle.std.specs.declared.option.Option.TheVariants.{None, Some}
+use Rattle.std.specs.declared.result.Result.TheVariants.{Err}
 use Rattle.layout.specs.Pick.{pick}
-use Rattle.layout.proofs.Tests.{true_or_false}
 use Rattle.completion.specs.declared.Refusal.{Refusal}
 use Rattle.model.specs.declared.Opening.{Opening}
-use Rattle.model.specs.State.{fresh}
-use Rattle.model.specs.Memory.{rows_opened, over}
 use Rattle.memory.specs.Lengths.{lengths_with}
 use Rattle.opening.specs.Prepared.{Prepared}
-use Rattle.opening.specs.declared.Opened.{Opened}
-use Rattle.opening.specs.declared.Opened.TheVariants.{No, Table}
-use Rattle.opening.specs.Opened.{refused, opened_with}
-use Rattle.opening.proofs.Opens.{opens_to}
+use Rattle.opening.specs.Opened.{opened_with, Opened}
+use Rattle.opening.proofs.Opens.{opens_to, rows_by}
 use Rattle.abi.specs.RowWords.{rows_in, rows_cleared}
 use Rattle.abi.proofs.Laws.{count, cleared_is, cleared_long}
 use Rattle.entry.specs.WordCalls.{OpensInWords}
 
-pick_no : {A : Type 0} (t : Bool) (a b : A) → t ≡ false → pick t a b ≡ b
-unfolding pick
-pick_no t a b h = ap (λ (u : Bool). pick u a b) h
+-- the words that are cleared, of so many rows as were prepared
+abbrev pub words_by : List ℕ → Option ℕ → List ℕ
+words_by rows None = rows
+words_by rows (Some depth) = rows_cleared (min depth (length rows / 16)) rows
 
--- of a depth that a refused opening leaves, no word is cleared
-none_cleared : (rows : List ℕ) → rows_cleared 0 rows ≡ rows
-unfolding rows_cleared over
-none_cleared rows = refl
+pub none_cleared : (rows : List ℕ) (depth : Option ℕ) → ((n : ℕ) → depth ≡ Some n → ⊥) → rows ≡ words_by rows depth
+none_cleared rows None other = refl
+none_cleared rows (Some n) other = absurd (other n refl)
 
 -- what is behind the cleared rows stays
 cleared_behind : (n d : ℕ) (rows : List ℕ) → n ≤ d → drop (16 * d) (rows_cleared n rows) ≡ drop (16 * d) rows
@@ -46,36 +41,36 @@ cleared_behind n d rows le =
     ∙ drop-drop (16 * d - 16 * n) (16 * n) rows
     ∙ ap (λ (k : ℕ). drop k rows) all
 
--- a refused opening has depth 0
-refused_depth : (depth : ℕ) (f : Refusal) → opened_with depth ≡ No f → depth ≡ 0
+-- a refused opening has no depth
+refused_depth : (depth : Option ℕ) (f : Refusal) → opened_with depth ≡ Err f → depth ≡ None
 unfolding opened_with
-refused_depth depth f e = by_test (true_or_false (eqb depth 0))
-  where
-    by_test : (eqb depth 0 ≡ true) ⊎ (eqb depth 0 ≡ false) → depth ≡ 0
-    by_test (inl t) = eqb-true depth 0 t
-    by_test (inr n) =
-        let table : Table fresh ≡ No f = sym (pick_no (eqb depth 0) refused (Table fresh) n) ∙ e in
-        let z : ◌≡◌ {A = ℕ} 0 1 = cc in
-        absurd (omega arith)
+refused_depth None f e = refl
+refused_depth (Some n) f e = absurd (cc)
 
--- the depth of an opening is at most the one asked for
-depth_most : (t : Bool) (depth n : ℕ) → depth ≡ pick t n 0 → depth ≤ n
+-- the depth of an opening is the one asked for
+depth_most : (t : Bool) (n d : ℕ) → Some n ≡ pick t (Some d) None → n ≤ d
 unfolding pick
-depth_most true depth n e = omega (arith, e)
-depth_most false depth n e = omega (arith, e)
+depth_most true n d e = let same : n ≡ d = cc in omega arith
+depth_most false n d e = absurd (cc)
 
-pub opens_words : (o : Opening) (plan rows store free ready owners pool : List ℕ) (depth : ℕ) (r : Opened) (rows' store' free' ready' owners' : List ℕ)
+behind_by : (rows : List ℕ) (depth : Option ℕ) (t : Bool) (d : ℕ) → depth ≡ pick t (Some d) None → drop (16 * d) (words_by rows depth) ≡ drop (16 * d) rows
+behind_by rows None t d e = refl
+behind_by rows (Some n) t d e = cleared_behind _ d rows (le_trans (min-le_left n (length rows / 16)) (depth_most t n d e))
+
+long_by : (rows : List ℕ) (depth : Option ℕ) → length (words_by rows depth) ≡ length rows
+long_by rows None = refl
+long_by rows (Some n) = cleared_long _ rows (min-le_right n (length rows / 16))
+
+pub opens_words : (o : Opening) (plan rows store free ready owners pool : List ℕ) (depth : Option ℕ) (r : Opened) (rows' store' free' ready' owners' : List ℕ)
     → Prepared o plan (lengths_with (length rows / 16) store free ready owners (length pool)) depth store free ready owners store' free' ready' owners'
-    → rows_in rows' ≡ rows_opened (min depth (length (rows_in rows))) (rows_in rows) → rows' ≡ rows_cleared (min depth (length rows / 16)) rows → r ≡ opened_with depth
+    → rows_in rows' ≡ rows_by o plan (rows_in rows) store free ready owners pool depth → rows' ≡ words_by rows depth → r ≡ opened_with depth
     → OpensInWords o plan rows store free ready owners pool r rows' store' free' ready' owners'
 opens_words o plan rows store free ready owners pool depth r rows' store' free' ready' owners' p e-rows e-words e-reply =
-    let n = min depth (length rows / 16) in
     record {
       opens = opens_to o plan (rows_in rows) store free ready owners pool depth r (rows_in rows') store' free' ready' owners'
           (subst (λ (k : ℕ). Prepared o plan (lengths_with k store free ready owners (length pool)) depth store free ready owners store' free' ready' owners') (sym (count rows)) p) e-rows e-reply;
       turned_away = λ f e.
-          let none : depth ≡ 0 = refused_depth depth f (sym e-reply ∙ e) in
-          e-words ∙ ap (λ (k : ℕ). rows_cleared (min k (length rows / 16)) rows) none ∙ ap (λ (k : ℕ). rows_cleared k rows) (zero-min (length rows / 16)) ∙ none_cleared rows;
-      behind = ap (drop (16 * o.depth)) e-words ∙ cleared_behind n o.depth rows (le_trans (min-le_left depth (length rows / 16)) (depth_most _ depth o.depth p.depth_is));
-      long = ap length e-words ∙ cleared_long n rows (min-le_right depth (length rows / 16));
+          e-words ∙ ap (words_by rows) (refused_depth depth f (sym e-reply ∙ e));
+      behind = ap (drop (16 * o.depth)) e-words ∙ behind_by rows depth _ o.depth p.depth_is;
+      long = ap length e-words ∙ long_by rows depth;
     }

@@ -7,10 +7,11 @@ use Rattle.layout.specs.Pick.{pick}
 use Rattle.completion.specs.declared.Refusal.TheVariants as Refusal
 use Rattle.completion.specs.declared.Reply.{Reply}
 use Rattle.model.specs.declared.{Call.Call, Lookup.Lookup, Opening.Opening}
-use Rattle.opening.specs.declared.Opened.{Opened}
 use Rattle.entry.specs.WordCalls.{count_words}
 use Rattle.entry.specs.WholeRows.{OpensWhole, CallsWhole, LooksWhole, fits_in}
 use Rattle.abi.specs.ReplyWords.{reply_words, unknown_words}
+use Rattle.opening.specs.Opened.{Opened}
+use Rattle.std.specs.declared.result.Result.{Result}
 
 -- what a host lends
 pub record Parts : Type 0 where
@@ -52,12 +53,12 @@ pub record LooksOut (x : Lookup) (p : Parts) (out : List ℕ) : Type 0 where
 
 -- an opening: "Is all this so, and the row memory long enough? No: 13." The table's counts go to their words; refused, those stay too.
 unfoldable pub opened_reply : Opened → Reply
-opened_reply (Opened.Table c) = Reply.Ok
-opened_reply (Opened.No f) = Reply.No f
+opened_reply (Result.Ok c) = Reply.Ok
+opened_reply (Result.Err f) = Reply.No f
 
 unfoldable pub opened_counts : Opened → List ℕ → List ℕ
-opened_counts (Opened.Table c) counts = count_words c
-opened_counts (Opened.No f) counts = counts
+opened_counts (Result.Ok c) counts = count_words c
+opened_counts (Result.Err f) counts = counts
 
 pub record OpensOut (o : Opening) (plan : List ℕ) (p p' : Parts) (out : List ℕ) : Type 0 where
   pub opened : Opened

@@ -3,3 +3,4 @@ pub mod WholeRows
 pub mod Entry
 pub mod Settings
 pub mod Holding
+pub mod Lent

@@ -5,8 +5,9 @@ use Rattle.completion.specs.declared.Refusal.TheVariants as Refusal
 use Rattle.completion.specs.declared.Reply.{Reply}
 use Rattle.model.specs.declared.{Call.Call, Lookup.Lookup, Opening.Opening}
 use Rattle.model.specs.Memory.{lengths_of, same_lengths}
-use Rattle.opening.specs.declared.Opened.{Opened}
 use Rattle.entry.specs.WordCalls.{lent_in, OpensInWords, CallsInWords, LooksInWords}
+use Rattle.opening.specs.Opened.{Opened}
+use Rattle.std.specs.declared.result.Result.{Result}
 
 -- as many words as some rows have, or not
 abbrev pub Whole : List ℕ → Type 0
@@ -18,7 +19,7 @@ Cut rows = Whole rows → ⊥
 pub record OpensWhole (o : Opening) (plan rows store free ready owners pool : List ℕ) (r : Opened)
     (rows' store' free' ready' owners' : List ℕ) : Type 0 where
   pub whole : Whole rows → OpensInWords o plan rows store free ready owners pool r rows' store' free' ready' owners'
-  pub cut : Cut rows → (r ≡ Opened.No Refusal.Unfit) × (rows' ≡ rows) × (store' ≡ store) × (free' ≡ free) × (ready' ≡ ready) × (owners' ≡ owners)
+  pub cut : Cut rows → (r ≡ Result.Err Refusal.Unfit) × (rows' ≡ rows) × (store' ≡ store) × (free' ≡ free) × (ready' ≡ ready) × (owners' ≡ owners)
 
 pub record CallsWhole (call : Call) (counts rows store free ready owners pool : List ℕ) (r : Reply)
     (counts' rows' store' free' ready' owners' pool' : List ℕ) : Type 0 where

@@ -8,10 +8,10 @@ use Rattle.model.specs.Memory.{Lent}
 use Rattle.optable.specs.Counted.{accepted_if, released_by}
 use Rattle.optable.specs.declared.touched.Touched.{Touched}
 use Rattle.optable.specs.Called.{lent_of, place_of, CallsTo, LooksTo}
-use Rattle.opening.specs.declared.Opened.{Opened}
-use Rattle.opening.specs.Opened.{OpensTo}
+use Rattle.opening.specs.Opened.{OpensTo, Opened}
 use Rattle.step.specs.Lists.{is_away}
 use Rattle.abi.specs.RowWords.{rows_in}
+use Rattle.std.specs.declared.result.Result.{Result}
 
 -- "the counts of live rows, ready completions and submissions", in that order
 unfoldable pub counts_in : List ℕ → Counts
@@ -30,7 +30,7 @@ pub record OpensInWords (o : Opening) (plan rows store free ready owners pool : 
     (rows' store' free' ready' owners' : List ℕ) : Type 0 where
   pub opens : OpensTo o plan (lent_in rows store free ready owners pool) r (rows_in rows') store' free' ready' owners'
   -- a refused opening changes no word of the rows either, and none behind the last row of an admitted one is written
-  pub turned_away : (f : Refusal) → r ≡ Opened.No f → rows' ≡ rows
+  pub turned_away : (f : Refusal) → r ≡ Result.Err f → rows' ≡ rows
   pub behind : drop (16 * o.depth) rows' ≡ drop (16 * o.depth) rows
   pub long : length rows' ≡ length rows
 

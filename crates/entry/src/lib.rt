@@ -17,34 +17,31 @@ ghost use Rattle.model.specs.Memory.{settings_in};
 ghost use Rattle.arrival.specs.Arrived.{arrived_call};
 ghost use Rattle.abi.specs.Asked.{request_in, answer_asked, flushed_asked, gate_asked, poison_asked};
 ghost use Rattle.entry.specs.Entry.{parts_of, nameless_words, CallsOut, AnswersOut, LooksOut, OpensOut};
+ghost use Rattle.memory.specs.Words.{SameWords};
+ghost use Rattle.entry.specs.Lent.{parts_with};
 ghost use Rattle.entry.specs.Settings.{setting_call};
 ghost use Rattle.model.specs.declared.Call.TheVariants as Call;
 
 use crate::settings::Setting;
-use abi::codes::{AnswerForm, CauseForm, FlushedForm, GateForm};
 use arrival::Arrived;
 use completion::{Refusal, Reply};
+use memory::words::{View, Words};
 use model::{Lookup, Request};
-use opening::Opened;
 
 // A write's reply.
 fn write(
     q: Request,
     counts: &mut [u64; 3],
     rows: &mut [u64],
-    store: &mut [u64],
-    free: &mut [u64],
-    ready: &mut [u64],
-    owners: &mut [u64],
+    words: &mut Words,
     pool: &mut [u8],
     out: &mut [u64; 17],
 )
-    ensures { CallsOut (Call.Write q) (parts_of counts.old rows.old store.old
-        free.old ready.old owners.old pool.old)
-        (parts_of counts.new rows.new store.new
-        free.new ready.new owners.new pool.new) out.new }
+    ensures same { SameWords words.old words.new }
+    ensures calls { CallsOut (Call.Write q) (parts_with counts.old rows.old words.old pool.old)
+        (parts_with counts.new rows.new words.new pool.new) out.new }
 {
-    let reply = crate::calls::write(q, counts, rows, store, free, ready, owners, pool);
+    let reply = crate::calls::write(q, counts, rows, words, pool);
     abi::replies::put_reply(reply, out);
 }
 
@@ -53,19 +50,15 @@ fn read_page(
     q: Request,
     counts: &mut [u64; 3],
     rows: &mut [u64],
-    store: &mut [u64],
-    free: &mut [u64],
-    ready: &mut [u64],
-    owners: &mut [u64],
+    words: &mut Words,
     pool: &mut [u8],
     out: &mut [u64; 17],
 )
-    ensures { CallsOut (Call.ReadPage q) (parts_of counts.old rows.old store.old
-        free.old ready.old owners.old pool.old)
-        (parts_of counts.new rows.new store.new
-        free.new ready.new owners.new pool.new) out.new }
+    ensures same { SameWords words.old words.new }
+    ensures calls { CallsOut (Call.ReadPage q) (parts_with counts.old rows.old words.old pool.old)
+        (parts_with counts.new rows.new words.new pool.new) out.new }
 {
-    let reply = crate::calls::read_page(q, counts, rows, store, free, ready, owners, pool);
+    let reply = crate::calls::read_page(q, counts, rows, words, pool);
     abi::replies::put_reply(reply, out);
 }
 
@@ -75,19 +68,15 @@ fn arrived(
     what: Arrived,
     counts: &mut [u64; 3],
     rows: &mut [u64],
-    store: &mut [u64],
-    free: &mut [u64],
-    ready: &mut [u64],
-    owners: &mut [u64],
+    words: &mut Words,
     pool: &mut [u8],
     out: &mut [u64; 17],
 )
-    ensures { CallsOut (arrived_call qtag what) (parts_of counts.old rows.old store.old
-        free.old ready.old owners.old pool.old)
-        (parts_of counts.new rows.new store.new
-        free.new ready.new owners.new pool.new) out.new }
+    ensures same { SameWords words.old words.new }
+    ensures calls { CallsOut (arrived_call qtag what) (parts_with counts.old rows.old words.old pool.old)
+        (parts_with counts.new rows.new words.new pool.new) out.new }
 {
-    let reply = crate::calls::arrive(qtag, what, counts, rows, store, free, ready, owners, pool);
+    let reply = crate::calls::arrive(qtag, what, counts, rows, words, pool);
     abi::replies::put_reply(reply, out);
 }
 
@@ -96,36 +85,23 @@ fn set(
     what: Setting,
     counts: &mut [u64; 3],
     rows: &mut [u64],
-    store: &mut [u64],
-    free: &mut [u64],
-    ready: &mut [u64],
-    owners: &mut [u64],
+    words: &mut Words,
     pool: &mut [u8],
     out: &mut [u64; 17],
 )
-    ensures { CallsOut (setting_call what) (parts_of counts.old rows.old store.old
-        free.old ready.old owners.old pool.old)
-        (parts_of counts.new rows.new store.new
-        free.new ready.new owners.new pool.new) out.new }
+    ensures same { SameWords words.old words.new }
+    ensures calls { CallsOut (setting_call what) (parts_with counts.old rows.old words.old pool.old)
+        (parts_with counts.new rows.new words.new pool.new) out.new }
 {
-    let reply = crate::settings::set(what, counts, rows, store, free, ready, owners, pool);
+    let reply = crate::settings::set(what, counts, rows, words, pool);
     abi::replies::put_reply(reply, out);
 }
 
 // That of a code that names nothing: 13 first, as everywhere; the counts are not asked for.
-fn nameless(
-    rows: &[u64],
-    store: &[u64],
-    free: &[u64],
-    ready: &[u64],
-    owners: &[u64],
-    pool: &[u8],
-    out: &mut [u64; 17],
-)
-    ensures { out.new ≡ nameless_words (parts_of [] rows.now store.now
-        free.now ready.now owners.now pool.now) }
+fn nameless(rows: &[u64], words: &Words, pool: &[u8], out: &mut [u64; 17])
+    ensures { out.new ≡ nameless_words (parts_with [] rows.now words.now pool.now) }
 {
-    if crate::wholerows::fits(rows, store, free, ready, owners, pool) {
+    if crate::wholerows::fits_words(rows, words, pool) {
         abi::replies::put_unknown(out);
         return;
     }
@@ -154,13 +130,19 @@ pub extern "C" fn table_open(
         free.new ready.new owners.new pool.now) out.new }
 {
     let o = abi::codes::opening_of(opening);
-    let opened = crate::wholerows::open_whole(o, plan, rows, store, free, ready, owners, pool);
+    let mut words = Words {
+        store,
+        free,
+        ready,
+        owners,
+    };
+    let opened = crate::wholerows::open_whole(o, plan, rows, &mut words, pool);
     match opened {
-        Opened::Table(c) => {
+        Ok(c) => {
             *counts = [c.live, c.ready, c.submissions];
             abi::replies::put_whole(Reply::Ok, out);
         }
-        Opened::No(f) => abi::replies::put_whole(Reply::No(f), out),
+        Err(f) => abi::replies::put_whole(Reply::No(f), out),
     }
 }
 
@@ -183,7 +165,13 @@ pub extern "C" fn table_write(
         free.new ready.new owners.new pool.new) out.new }
 {
     let q = abi::codes::request_of(request);
-    write(q, counts, rows, store, free, ready, owners, pool, out)
+    let mut words = Words {
+        store,
+        free,
+        ready,
+        owners,
+    };
+    write(q, counts, rows, &mut words, pool, out)
 }
 
 // A read (Submitter::read_page), with the same 9 words.
@@ -205,7 +193,13 @@ pub extern "C" fn table_read_page(
         free.new ready.new owners.new pool.new) out.new }
 {
     let q = abi::codes::request_of(request);
-    read_page(q, counts, rows, store, free, ready, owners, pool, out)
+    let mut words = Words {
+        store,
+        free,
+        ready,
+        owners,
+    };
+    read_page(q, counts, rows, &mut words, pool, out)
 }
 
 // The card's answer to a piece, by its form: 0 a count, 1 an error, 2 refused, 3 refused with an error (Table::finish and abort).
@@ -232,9 +226,15 @@ pub extern "C" fn table_answer(
         (parts_of counts.new rows.new store.new
         free.new ready.new owners.new pool.new) out.new }
 {
+    let mut words = Words {
+        store,
+        free,
+        ready,
+        owners,
+    };
     let named = abi::codes::answer_form(form, count, raw, media);
     match named {
-        AnswerForm::Known(answer) => arrived(
+        Some(answer) => arrived(
             qtag,
             Arrived::Answer {
                 answer,
@@ -243,14 +243,11 @@ pub extern "C" fn table_answer(
             },
             counts,
             rows,
-            store,
-            free,
-            ready,
-            owners,
+            &mut words,
             pool,
             out,
         ),
-        AnswerForm::Unknown => nameless(rows, store, free, ready, owners, pool, out),
+        None => nameless(rows, &words, pool, out),
     }
 }
 
@@ -277,21 +274,24 @@ pub extern "C" fn table_flushed(
         (parts_of counts.new rows.new store.new
         free.new ready.new owners.new pool.new) out.new }
 {
+    let mut words = Words {
+        store,
+        free,
+        ready,
+        owners,
+    };
     let named = abi::codes::flushed_form(form, need, op, has, raw);
     match named {
-        FlushedForm::Known(result) => arrived(
+        Some(result) => arrived(
             qtag,
             Arrived::Flushed(result),
             counts,
             rows,
-            store,
-            free,
-            ready,
-            owners,
+            &mut words,
             pool,
             out,
         ),
-        FlushedForm::Unknown => nameless(rows, store, free, ready, owners, pool, out),
+        None => nameless(rows, &words, pool, out),
     }
 }
 
@@ -312,7 +312,13 @@ pub extern "C" fn table_take(
         (parts_of counts.new rows.new store.new
         free.new ready.new owners.new pool.new) out.new }
 {
-    let reply = crate::calls::take(counts, rows, store, free, ready, owners, pool);
+    let mut words = Words {
+        store,
+        free,
+        ready,
+        owners,
+    };
+    let reply = crate::calls::take(counts, rows, &mut words, pool);
     abi::replies::put_reply(reply, out);
 }
 
@@ -335,20 +341,23 @@ pub extern "C" fn table_set_gate(
         (parts_of counts.new rows.new store.new
         free.new ready.new owners.new pool.new) out.new }
 {
+    let mut words = Words {
+        store,
+        free,
+        ready,
+        owners,
+    };
     let named = abi::codes::gate_form(gate);
     match named {
-        GateForm::Known(gate) => set(
+        Some(gate) => set(
             Setting::Gate { handle, gate },
             counts,
             rows,
-            store,
-            free,
-            ready,
-            owners,
+            &mut words,
             pool,
             out,
         ),
-        GateForm::Unknown => nameless(rows, store, free, ready, owners, pool, out),
+        None => nameless(rows, &words, pool, out),
     }
 }
 
@@ -371,8 +380,14 @@ pub extern "C" fn table_set_read_only(
         (parts_of counts.new rows.new store.new
         free.new ready.new owners.new pool.new) out.new }
 {
+    let mut words = Words {
+        store,
+        free,
+        ready,
+        owners,
+    };
     let what = Setting::ReadOnly { handle, on };
-    set(what, counts, rows, store, free, ready, owners, pool, out)
+    set(what, counts, rows, &mut words, pool, out)
 }
 
 // A region's forced mark is set.
@@ -394,8 +409,14 @@ pub extern "C" fn table_set_forced(
         (parts_of counts.new rows.new store.new
         free.new ready.new owners.new pool.new) out.new }
 {
+    let mut words = Words {
+        store,
+        free,
+        ready,
+        owners,
+    };
     let what = Setting::Forced { handle, on };
-    set(what, counts, rows, store, free, ready, owners, pool, out)
+    set(what, counts, rows, &mut words, pool, out)
 }
 
 // Poison is reported, with a cause: operation 0 none, 1 read, 2 write, 3 flush (Domain::poison).
@@ -418,20 +439,16 @@ pub extern "C" fn table_report_poison(
         (parts_of counts.new rows.new store.new
         free.new ready.new owners.new pool.new) out.new }
 {
+    let mut words = Words {
+        store,
+        free,
+        ready,
+        owners,
+    };
     let named = abi::codes::cause_form(op, has, raw);
     match named {
-        CauseForm::Known(cause) => set(
-            Setting::Poison(cause),
-            counts,
-            rows,
-            store,
-            free,
-            ready,
-            owners,
-            pool,
-            out,
-        ),
-        CauseForm::Unknown => nameless(rows, store, free, ready, owners, pool, out),
+        Some(cause) => set(Setting::Poison(cause), counts, rows, &mut words, pool, out),
+        None => nameless(rows, &words, pool, out),
     }
 }
 
@@ -450,16 +467,13 @@ pub extern "C" fn table_writes_live(
     ensures { LooksOut Lookup.WritesLive (parts_of counts.now rows.now store.now
         free.now ready.now owners.now pool.now) out.new }
 {
-    let reply = crate::wholerows::lookup_whole(
-        Lookup::WritesLive,
-        counts,
-        rows,
+    let words = View {
         store,
         free,
         ready,
         owners,
-        pool,
-    );
+    };
+    let reply = crate::wholerows::lookup_whole(Lookup::WritesLive, counts, rows, &words, pool);
     abi::replies::put_whole(reply, out);
 }
 
@@ -478,16 +492,13 @@ pub extern "C" fn table_mark(
     ensures { LooksOut Lookup.Mark (parts_of counts.now rows.now store.now
         free.now ready.now owners.now pool.now) out.new }
 {
-    let reply = crate::wholerows::lookup_whole(
-        Lookup::Mark,
-        counts,
-        rows,
+    let words = View {
         store,
         free,
         ready,
         owners,
-        pool,
-    );
+    };
+    let reply = crate::wholerows::lookup_whole(Lookup::Mark, counts, rows, &words, pool);
     abi::replies::put_whole(reply, out);
 }
 

@@ -3,10 +3,12 @@
 // calls: the arms of calls would then be named twice, and not be compiled into their callers. No row is touched: row 0 is put back as it was.
 ghost use Rattle.marks.specs.Marks.{MarksTo};
 ghost use Rattle.entry.specs.Settings.{setting_call};
-ghost use Rattle.entry.specs.WholeRows.{CallsWhole};
+ghost use Rattle.memory.specs.Words.{SameWords};
+ghost use Rattle.entry.specs.Lent.{CallsIn};
 
 use completion::{Refusal, Reply};
 use domain::FirstCause;
+use memory::words::Words;
 use model::{Gate, Row};
 use optable::touched::Touched;
 
@@ -36,22 +38,17 @@ pub fn set(
     what: Setting,
     counts: &mut [u64; 3],
     rows: &mut [u64],
-    store: &mut [u64],
-    free: &mut [u64],
-    ready: &mut [u64],
-    owners: &mut [u64],
+    words: &mut Words,
     pool: &mut [u8],
 ) -> Reply
-    ensures { CallsWhole (setting_call what) counts.old rows.old store.old
-        free.old ready.old owners.old pool.old
-        result counts.new rows.new store.new
-        free.new ready.new owners.new pool.new }
+    ensures same { SameWords words.old words.new }
+    ensures calls { CallsIn (setting_call what) counts.old rows.old words.old pool.old result counts.new rows.new words.new pool.new }
 {
-    if !crate::wholerows::fits(rows, store, free, ready, owners, pool) {
+    if !crate::wholerows::fits_words(rows, words, pool) {
         return Reply::No(Refusal::Unfit);
     }
     let c = crate::words::counts_of(*counts);
     let row = abi::rows::row_at(rows, 0);
-    let t = mark(what, row, store);
+    let t = mark(what, row, words.store);
     crate::words::put_touched(t, 0, c, counts, rows)
 }

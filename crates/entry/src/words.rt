@@ -5,11 +5,13 @@ ghost use Rattle.optable.specs.Counted.{accepted_if, released_by};
 ghost use Rattle.optable.specs.Looked.{looked_in};
 ghost use Rattle.abi.specs.RowWords.{rows_in};
 ghost use Rattle.step.specs.Lists.{is_away};
-ghost use Rattle.entry.specs.WordCalls.{counts_in, count_words, OpensInWords, Counted, Put, LooksInWords};
+ghost use Rattle.entry.specs.WordCalls.{counts_in, count_words, Counted, Put};
+ghost use Rattle.memory.specs.Words.{SameWords};
+ghost use Rattle.entry.specs.Lent.{OpensWordsIn, LooksWordsIn};
 
-use completion::Reply;
+use completion::{Refusal, Reply};
+use memory::words::{View, Words};
 use model::{Counts, Lookup, Opening};
-use opening::Opened;
 use optable::lookup::Looked;
 use optable::touched::Touched;
 
@@ -18,27 +20,16 @@ pub fn open_words(
     o: Opening,
     plan: &[u64],
     rows: &mut [u64],
-    store: &mut [u64],
-    free: &mut [u64],
-    ready: &mut [u64],
-    owners: &mut [u64],
+    words: &mut Words,
     pool: &[u8],
-) -> Opened
-    ensures { OpensInWords o plan.now
-        rows.old store.old free.old ready.old owners.old pool.now
-        result rows.new store.new free.new ready.new owners.new }
+) -> Result<Counts, Refusal>
+    ensures same { SameWords words.old words.new }
+    ensures opens { OpensWordsIn o plan.now rows.old words.old pool.now result rows.new words.new }
 {
-    let depth = opening::store::prepare(
-        o,
-        plan,
-        rows.len() / 16,
-        store,
-        free,
-        ready,
-        owners,
-        pool.len(),
-    );
-    abi::rows::clear(rows, depth);
+    let depth = opening::store::prepare(o, plan, rows.len() / 16, words, pool.len());
+    if let Some(n) = depth {
+        abi::rows::clear(rows, n);
+    }
     opening::reply(depth)
 }
 
@@ -58,8 +49,7 @@ pub fn counts_of(counts: [u64; 3]) -> Counts
 fn put_counts(t: Touched, c: Counts, counts: &mut [u64; 3])
     ensures { counts.new ≡ count_words (released_by t.frees (accepted_if t.accepts c)) }
 {
-    let frees = t.frees;
-    let next = optable::released(optable::accepted(c, t.accepts), frees);
+    let next = optable::released(optable::accepted(c, t.accepts), t.frees);
     *counts = [next.live, next.ready, next.submissions];
 }
 
@@ -77,12 +67,11 @@ fn away(reply: Reply) -> bool
 pub fn put_counted(t: Touched, c: Counts, counts: &mut [u64; 3]) -> Reply
     ensures { Counted t c counts.old result counts.new }
 {
-    let reply = t.reply;
-    if away(reply) {
-        return reply;
+    if away(t.reply) {
+        return t.reply;
     }
     put_counts(t, c, counts);
-    reply
+    t.reply
 }
 
 // The row that a call touches and the counts are put into their words, as the call leaves them; one that is turned away writes neither.
@@ -95,48 +84,39 @@ pub fn put_touched(
 ) -> Reply
     ensures { Put t at c counts.old rows.old result counts.new rows.new }
 {
-    let reply = t.reply;
-    if away(reply) {
-        return reply;
+    if away(t.reply) {
+        return t.reply;
     }
-    let touched = t.row;
-    abi::rows::put_row(rows, at, touched);
+    abi::rows::put_row(rows, at, t.row);
     put_counts(t, c, counts);
-    reply
+    t.reply
 }
 
 // Walks through the first rows, as many as the depth, from the last to the first (optable::lookup::look).
 fn look(rows: &[u64], depth: usize, next: u64) -> Looked
     ensures { result ≡ looked_in next (take depth (rows_in rows.now)) }
 {
-    let mut i = layout::lesser(depth, rows.len() / 16);
+    let n = depth.min(rows.len() / 16);
     let mut l = Looked {
         writes: false,
         oldest: next,
     };
-    while 0 < i {
-        i -= 1;
+    for i in (0..n).rev() {
         l = optable::lookup::seen(l, abi::rows::row_at(rows, i));
     }
     l
 }
 
 // One lookup (submitter::lookup): it changes nothing.
-pub fn lookup_words(
-    x: Lookup,
-    counts: &[u64; 3],
-    rows: &[u64],
-    store: &[u64],
-    free: &[u64],
-    ready: &[u64],
-    owners: &[u64],
-    pool: &[u8],
-) -> Reply
-    ensures { LooksInWords x counts.now
-        rows.now store.now free.now ready.now owners.now pool.now result }
+pub fn lookup_words(x: Lookup, counts: &[u64; 3], rows: &[u64], words: &View, pool: &[u8]) -> Reply
+    ensures { LooksWordsIn x counts.now rows.now words.now pool.now result }
 {
-    let f = memory::lengths::fitted(rows.len() / 16, store, free, ready, owners, pool);
     let c = counts_of(*counts);
-    let l = look(rows, f.depth, c.submissions);
-    optable::lookup::answer(x, c, f.fits, l)
+    match words.fitted(rows.len() / 16, pool.len()) {
+        Some(depth) => {
+            let l = look(rows, depth, c.submissions);
+            optable::lookup::answer(x, c, Some(l))
+        }
+        None => optable::lookup::answer(x, c, None),
+    }
 }

@@ -13,13 +13,13 @@ use Rattle.std.specs.Prelude.{◌≡◌, Bool, true, false, List, [], ◌∷◌,
 use Rattle.regionmap.specs.Words.{position_of, offset_of}
 use Rattle.posix.specs.Posix.{Card}
 use Rattle.domain.specs.declared.Op.TheVariants as Op
-use Rattle.domain.specs.declared.OsError.TheVariants as OsError
+use Rattle.std.specs.declared.option.Option.{Option}
 use Rattle.domain.specs.declared.FirstCause.{FirstCause}
 use Rattle.platform.specs.declared.Answer.TheVariants as Answer
 use Rattle.platform.specs.declared.Flushed.TheVariants as Flushed
 use Rattle.completion.specs.declared.{WriteTicket.WriteTicket, Range.Range, DurableReceipt.DurableReceipt, Completion.Completion, Reply.Reply}
 use Rattle.completion.specs.declared.Outcome.TheVariants as Outcome
-use Rattle.completion.specs.declared.Buffer.TheVariants as Buffer
+use Rattle.std.specs.declared.option.Option.TheVariants.{Some as Back, None as Lost}
 use Rattle.completion.specs.declared.Refusal.TheVariants as Refusal
 use Rattle.model.specs.declared.{Opening.Opening, Lengths.Lengths, Request.Request}
 use Rattle.model.specs.declared.Call.TheVariants as Call
@@ -123,7 +123,7 @@ failing = arrives 4 (replicate 30 3 ++ replicate 482 1) (calls (Call.Answer 4 (A
 
 -- 5: the durable write's piece, at flush count 6, and its flush, which failed with the OS error 28
 abbrev pub by_flush : FirstCause
-by_flush = record { op = Op.Flush; raw = OsError.Raw 28 }
+by_flush = record { op = Op.Flush; raw = Option.Some 28 }
 
 abbrev pub written : Made
 written = calls (Call.Answer 5 (Answer.Count 512) true 6)
@@ -197,13 +197,13 @@ abbrev pub range : ℕ → ℕ → Range
 range from to = record { region = 7; start = position_of from; end = position_of to }
 
 abbrev pub in_two : Completion
-in_two = record { tag = 70; outcome = Outcome.Written (ticket 512 1536 1); buf = Buffer.Back 0 1024 }
+in_two = record { tag = 70; outcome = Outcome.Written (ticket 512 1536 1); buf = Back (record { buffer = 0; len = 1024 }) }
 
 abbrev pub read_short : Completion
-read_short = record { tag = 71; outcome = Outcome.Read 100; buf = Buffer.Back 1 100 }
+read_short = record { tag = 71; outcome = Outcome.Read 100; buf = Back (record { buffer = 1; len = 100 }) }
 
 abbrev pub read_lost : Completion
-read_lost = record { tag = 72; outcome = Outcome.Interrupted (range 2048 2560); buf = Buffer.Lost }
+read_lost = record { tag = 72; outcome = Outcome.Interrupted (range 2048 2560); buf = Lost }
 
 abbrev pub receipt_there : DurableReceipt
 receipt_there =
@@ -227,14 +227,14 @@ synced =
     record {
       tag = 73;
       outcome = Outcome.Receipt (ticket 0 512 5) receipt_there;
-      buf = Buffer.Back 3 512;
+      buf = Back (record { buffer = 3; len = 512 });
     }
 
 abbrev pub read_failed : Completion
-read_failed = record { tag = 74; outcome = Outcome.Io (range 2560 3584) Op.Read 5; buf = Buffer.Back 4 1024 }
+read_failed = record { tag = 74; outcome = Outcome.Io (range 2560 3584) Op.Read 5; buf = Back (record { buffer = 4; len = 1024 }) }
 
 abbrev pub flush_failed : Completion
-flush_failed = record { tag = 75; outcome = Outcome.Unknown (range 3584 4096) by_flush; buf = Buffer.Back 5 512 }
+flush_failed = record { tag = 75; outcome = Outcome.Unknown (range 3584 4096) by_flush; buf = Back (record { buffer = 5; len = 512 }) }
 
 -- the operation in row r gets one completion in both lists, and its buffer so
 pub record Gets (r : ℕ) (what : Completed) : Type 0 where

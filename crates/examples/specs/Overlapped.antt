@@ -14,7 +14,7 @@ use Rattle.regionmap.specs.Words.{position_of}
 use Rattle.posix.specs.Posix.{Card}
 use Rattle.completion.specs.declared.{WriteTicket.WriteTicket, Completion.Completion}
 use Rattle.completion.specs.declared.Outcome.TheVariants as Outcome
-use Rattle.completion.specs.declared.Buffer.TheVariants as Buffer
+use Rattle.std.specs.declared.option.Option.TheVariants.{Some as Back, None as Lost}
 use Rattle.model.specs.declared.{Request.Request, Call.Call}
 use Rattle.model.specs.Opening.{opens}
 use Rattle.step.specs.Run.{Made.calls}
@@ -55,7 +55,7 @@ module _ (admitted : opens opening figures_plan lengths ≡ true) (whole : lengt
 -- ---- a piece of another write meanwhile
 
 abbrev pub written : Completion
-written = record { tag = 70; outcome = Outcome.Written (ticket_there 1); buf = Buffer.Back 0 1024 }
+written = record { tag = 70; outcome = Outcome.Written (ticket_there 1); buf = Back (record { buffer = 0; len = 1024 }) }
 
 -- the write over the first piece, and the calls behind the submission of `plain`
 abbrev pub over_first : Request
@@ -94,7 +94,7 @@ abbrev pub ticket_second : WriteTicket
 ticket_second = record { volume = 1; region = 7; generation = 3; start = position_of 1024; end = position_of 1536; need = 1; epoch = 0 }
 
 abbrev pub written_second : Completion
-written_second = record { tag = 70; outcome = Outcome.Written ticket_second; buf = Buffer.Back 1 512 }
+written_second = record { tag = 70; outcome = Outcome.Written ticket_second; buf = Back (record { buffer = 1; len = 512 }) }
 
 -- the call before it, the one that completes it, and the same with the two answers to `plain` behind it
 abbrev pub earlier : List Call

@@ -1,38 +1,25 @@
--- When two stretches are the same: as long, and alike from each place on.
-use mathlib.Core.Path.{◌≡◌, refl}
+-- When two stretches are the same.
+use mathlib.Core.Path.{◌≡◌, refl, ap}
 use mathlib.Core.List.{List, [], ◌∷◌}
-use mathlib.Core.Bool.{true, false, and-false}
-use Prim.Native.Nat.{ℕ, ◌+◌, ◌≤◌, ◌<◌}
-use native.Mathlib.Omega.{arith}
-use lib.ListN.{length, drop, get_or, drop_of_length-le}
+use mathlib.Core.Bool.{Bool, true, ◌&&◌}
+use Prim.Native.Nat.{ℕ}
 use lib.Dec.{eqb}
-use borrow.Author.Tests.{eq-eqb, ne_eqb, eqb-true}
+use borrow.Author.Tests.{eqb-true}
+use Rattle.std.specs.Cmp.Lexicographic.{pointwise}
 use Rattle.layout.proofs.Tests.{not_both, and_left, and_right}
-use Rattle.fields.specs.Fields.{eq_bytes}
-use Rattle.fields.proofs.Fields.{from_on}
+use Rattle.fields.specs.Fields.{field, eq_bytes, word_in}
 
--- of different lengths
-pub other_length : (a b : List ℕ) → (length a ≡ length b → ⊥) → eq_bytes a b ≡ false
+-- byte by byte
+bytewise : (a b : List ℕ) → eq_bytes a b ≡ pointwise eqb a b
 unfolding eq_bytes
-other_length [] [] h = absurd (h refl)
-other_length [] (d ∷ ds) h = refl
-other_length (c ∷ cs) [] h = refl
-other_length (c ∷ cs) (d ∷ ds) h = rw (other_length cs ds (λ e. h (omega arith))) (and-false (eqb c d))
+bytewise [] [] = refl
+bytewise [] (d ∷ ds) = refl
+bytewise (c ∷ cs) [] = refl
+bytewise (c ∷ cs) (d ∷ ds) = ap (λ (t : Bool). eqb c d && t) (bytewise cs ds)
 
-module _ (a b : List ℕ) (i : ℕ) where
-  -- the bytes at a place
-  module _ (p : i < length a) (q : i < length b) where
-    pub alike : get_or a i 0 ≡ get_or b i 0 → eq_bytes (drop i a) (drop i b) ≡ eq_bytes (drop (i + 1) a) (drop (i + 1) b)
-    unfolding eq_bytes
-    alike e = rw (from_on a i p, from_on b i q, eq-eqb (get_or a i 0) (get_or b i 0) e)
-
-    pub unlike : (get_or a i 0 ≡ get_or b i 0 → ⊥) → eq_bytes (drop i a) (drop i b) ≡ false
-    unfolding eq_bytes
-    unlike n = rw (from_on a i p, from_on b i q, ne_eqb (get_or a i 0) (get_or b i 0) n)
-
-  pub both_ended : length a ≤ i → length b ≤ i → eq_bytes (drop i a) (drop i b) ≡ true
-  unfolding eq_bytes
-  both_ended p q = rw (drop_of_length-le a {i = i} p, drop_of_length-le b {i = i} q)
+pub eq_bytes_is : (k : ℕ) (word cs : List ℕ) → word_in k word cs ≡ pointwise eqb (field k cs) word
+unfolding word_in
+eq_bytes_is k word cs = bytewise (field k cs) word
 
 -- stretches that are the same are one list
 pub same_list : (a b : List ℕ) → eq_bytes a b ≡ true → a ≡ b

@@ -1,7 +1,7 @@
 -- The fields of a line: "Fields are decimal digits (1 to 20 of them, no sign) separated by one space"; "a number over 2^64 − 1" is none.
 use Rattle.std.specs.Prelude.{Bool, true, false, ◌&&◌, List, [], ◌∷◌, ℕ, zero, suc, ◌+◌, ◌-◌, ◌*◌, ◌^◌, length, leb, ltb, eqb}
+use Rattle.std.specs.Prelude.{Option, Some, None, unwrap_or}
 use Rattle.layout.specs.Pick.{pick}
-use Rattle.fields.specs.declared.Field.{Field}
 
 -- how many spaces a line has; its fields are one more
 unfoldable pub spaces : List ℕ → ℕ
@@ -30,8 +30,9 @@ value n (c ∷ cs) = value (10 * n + (c - 48)) cs
 unfoldable pub is_number : List ℕ → Bool
 is_number f = leb 1 (length f) && (leb (length f) 20 && (all_digits f && ltb (value 0 f) (2 ^ 64)))
 
-unfoldable pub number_in : List ℕ → Field
-number_in f = record { is = is_number f; value = pick (is_number f) (value 0 f) 0 }
+-- the number that a field spells, if it spells one
+unfoldable pub number_in : List ℕ → Option ℕ
+number_in f = pick (is_number f) (Some (value 0 f)) None
 
 -- whether two lists hold the same bytes
 unfoldable pub eq_bytes : List ℕ → List ℕ → Bool
@@ -46,7 +47,7 @@ word_in k word cs = eq_bytes (field k cs) word
 
 -- the number in the k-th field, 0 where it holds none
 unfoldable pub num : ℕ → List ℕ → ℕ
-num k cs = (number_in (field k cs)).value
+num k cs = unwrap_or (number_in (field k cs)) 0
 
 -- whether the fields behind the first are numbers, up to the n-th
 unfoldable pub are_numbers : ℕ → List ℕ → Bool

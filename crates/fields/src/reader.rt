@@ -28,29 +28,17 @@ pub fn start() -> Reader
     }
 }
 
-// Stores a byte at a place that a line has, which the caller is told again: of an array lent to it the caller knows the length only at the call.
-fn keep(line: &mut [u8], at: usize, b: u8)
-    requires { at < length line.old }
-    ensures { (at < length line.old) × (line.new ≡ set line.old at b) }
-{
-    line[at] = b;
-}
-
 // One byte more.
 pub fn feed(r: Reader, line: &mut [u8; 4096], b: u8) -> Reader
     ensures { (bytes : List ℕ) → Kept r line.old bytes → Kept result line.new (bytes ++ (b ∷ [])) }
 {
-    let at = r.kept;
-    if 4096 <= at {
-        return Reader {
-            kept: at,
-            long: true,
-        };
+    if 4096 <= r.kept {
+        return Reader { long: true, ..r };
     }
-    keep(line, at, b);
+    line[r.kept] = b;
     Reader {
-        kept: at + 1,
-        long: r.long,
+        kept: r.kept + 1,
+        ..r
     }
 }
 

@@ -9,10 +9,8 @@ fn read_covers(store: &[u64], handle: u64, kind: Kind, split: Split, end: u64) -
     ensures { Covers store.now handle kind split end result }
 {
     match kind {
-        Kind::Page { start: _, end: _ } => false,
-        Kind::Read { start: _, end: _ } => {
-            end <= arrival::advance::piece_of(store, handle, kind, split).count
-        }
+        Kind::Page { .. } => false,
+        Kind::Read { .. } => end <= arrival::advance::piece_of(store, handle, kind, split).count,
     }
 }
 
@@ -23,8 +21,7 @@ fn loose_row(store: &[u64], row: Row, b: u64, end: u64) -> bool
     if row.buffer != b {
         return false;
     }
-    let awaits = row.awaits;
-    match awaits {
+    match row.awaits {
         Awaits::Piece(kind, split) => read_covers(store, row.handle, kind, split, end),
         _ => false,
     }
@@ -35,14 +32,10 @@ fn any_loose(store: &[u64], rows: [Row; 64], b: u64, end: u64) -> bool
     ensures { TellsLoose rows store.now b end result }
 {
     let depth = crate::pool::word(store, 1) as usize;
-    let n = layout::lesser(depth, 64);
-    let mut i: usize = 0;
-    while i < n {
-        let row = rows[i];
-        if loose_row(store, row, b, end) {
+    for row in &rows[..depth.min(64)] {
+        if loose_row(store, *row, b, end) {
             return true;
         }
-        i += 1;
     }
     false
 }

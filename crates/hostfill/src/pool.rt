@@ -2,16 +2,11 @@
 ghost use Rattle.std.specs.Prelude.{◌≡◌, ◌+◌, ◌≤◌, length, get_or, take, drop};
 ghost use Rattle.hostfill.specs.Writes.{fill_byte, filled, sum_of, in_pool};
 
-use layout::both;
-
 // A word; 0 where there is none.
 pub fn word(words: &[u64], i: usize) -> u64
     ensures { result ≡ get_or words.now i 0 }
 {
-    if i < words.len() {
-        return words[i];
-    }
-    0
+    words.get(i).copied().unwrap_or(0)
 }
 
 // Byte i of a seed: (seed + 7 i + i / 256) mod 256, by the seed's last byte.
@@ -28,10 +23,8 @@ pub fn fill(pool: &mut [u8], at: usize, n: usize, seed: u64)
     requires { at + n ≤ length pool.old }
     ensures { pool.new ≡ filled at n seed pool.old }
 {
-    let mut i: usize = 0;
-    while i < n {
+    for i in 0..n {
         pool[at + i] = byte_of(seed, i);
-        i += 1;
     }
 }
 
@@ -41,11 +34,9 @@ pub fn sum(bytes: &[u8]) -> u64
 {
     let mut s1: u64 = 1;
     let mut s2: u64 = 0;
-    let mut i: usize = 0;
-    while i < bytes.len() {
-        s1 = (s1 + bytes[i] as u64) % 4294967291;
+    for b in bytes {
+        s1 = (s1 + u64::from(*b)) % 4294967291;
         s2 = (s2 + s1) % 4294967291;
-        i += 1;
     }
     s2 * 4294967296 + s1
 }

@@ -1,14 +1,9 @@
 -- How a line goes on as bytes are passed, up to its LF or through all.
-use Rattle.std.proofs.Common.{◌≡◌, ℕ, zero, suc, ◌+◌, ◌<◌, ◌≤◌, min, Bool, true, false, cond, ltb, List, [], ◌∷◌, ◌++◌, length, get_or, take, drop, sym, refl, ap, ◌∙◌, subst, append_assoc, append-nil, add-one, arith, length-append, drop_of_length-le, drop-cons, le-ltb, lt-ltb, eq-eqb, ne_eqb}
+use Rattle.std.proofs.Common.{◌≡◌, ℕ, ◌+◌, ◌<◌, ◌≤◌, Bool, true, false, cond, List, [], ◌∷◌, ◌++◌, length, get_or, drop, sym, refl, ap, ◌∙◌, subst, append_assoc, append-nil, add-one, arith, length-append, drop_of_length-le, drop-cons, eq-eqb, ne_eqb}
 use Rattle.fields.specs.declared.reader.Reader.{Reader}
 use Rattle.fields.specs.Trace.{Kept}
 use Rattle.input.specs.declared.Input.{Input}
-use Rattle.input.specs.Input.{up_to, has_end, past, Scanned, Fresh}
-
--- a reader keeps a byte of every line that has one
-pub some_kept : (n m : ℕ) → n ≡ min 4096 m → ltb 0 n ≡ ltb 0 m
-some_kept n zero e = le-ltb 0 n (omega arith) ∙ sym (le-ltb 0 zero (omega arith))
-some_kept n (suc m) e = lt-ltb 0 n (omega arith) ∙ sym (lt-ltb 0 (suc m) (omega arith))
+use Rattle.input.specs.Input.{up_to, has_end, past, Scanned}
 
 -- the bytes passed are kept, and the line's end lies in those that are left
 pub record Passed (i : Input) (line₀ chunk : List ℕ) (reader : Reader) (line : List ℕ) (at : ℕ) : Type 0 where
@@ -90,8 +85,3 @@ module _ (i : Input) (line₀ chunk : List ℕ) where
         let was = p.place in
         let to = far r false at e (ap up_to gone) (ap has_end gone) in
         ends_here r false at e (ap up_to gone) (ap has_end gone) (omega (arith, was, to))
-
--- a line that was whole is left behind where the bytes are
-pub from_fresh : (i from r : Input) (line line' chunk : List ℕ) → Fresh i from → Scanned from r line line' (drop from.at (take from.got chunk))
-    → Scanned from r line line' (drop i.at (take i.got chunk))
-from_fresh i from r line line' chunk f s = subst (λ (l : List ℕ). Scanned from r line line' l) (λ j. drop (f.at j) (take (f.got j) chunk)) s

@@ -5,7 +5,7 @@ ghost use Rattle.std.specs.Prelude.{◌≡◌, ℕ, ◌≤◌, false, ◌&&◌, 
 ghost use Rattle.input.specs.Input.{Scanned, Fresh, Read, Next, Begun};
 
 use fields::reader::Reader;
-use std::io::{Print, Stdin, Stdout};
+use std::io::{Print, Read, Stdin, Stdout};
 
 // Where the input stands: the line as far as it was read, its number, whether it is complete, what is left of the bytes read last, and whether the
 // input has ended.
@@ -42,11 +42,9 @@ fn fresh(i: Input) -> Input
     }
     Input {
         reader: fields::reader::start(),
-        number: std::num::wrapping_add_u64(i.number, 1),
+        number: i.number.wrapping_add(1),
         whole: false,
-        at: i.at,
-        got: i.got,
-        ended: i.ended,
+        ..i
     }
 }
 
@@ -54,20 +52,14 @@ fn fresh(i: Input) -> Input
 fn is_last(got: usize, kept: usize) -> bool
     ensures { result ≡ (got == 0 && nat_lt 0 kept) }
 {
-    if got == 0 {
-        return 0 < kept;
-    }
-    false
+    got == 0 && 0 < kept
 }
 
 // Reads bytes of the input, and tells how many: none where it has ended, and none where they cannot be read.
 fn read_some(mut stdin: Stdin, chunk: &mut [u8]) -> usize
     ensures { result ≤ length chunk.new }
 {
-    match std::io::Read::read(&mut stdin, chunk) {
-        Ok(got) => got,
-        Err(_) => 0,
-    }
+    stdin.read(chunk).unwrap_or(0)
 }
 
 // More bytes; where there are none the input has ended, and what is left is its last line.
@@ -75,14 +67,12 @@ fn more(stdin: Stdin, i: Input, chunk: &mut [u8]) -> Input
     ensures { (line : List ℕ) → Read i result line line chunk.new }
 {
     let got = read_some(stdin, chunk);
-    let reader = i.reader;
     Input {
-        reader,
-        number: i.number,
-        whole: is_last(got, reader.kept),
+        whole: is_last(got, i.reader.kept),
         at: 0,
         got,
         ended: got == 0,
+        ..i
     }
 }
 
@@ -90,10 +80,7 @@ fn more(stdin: Stdin, i: Input, chunk: &mut [u8]) -> Input
 fn front(n: usize, b: &[u8]) -> usize
     ensures { (result ≤ length b.now) × (take result b.now ≡ take n b.now) }
 {
-    if n < b.len() {
-        return n;
-    }
-    b.len()
+    n.min(b.len())
 }
 
 // The line as read so far, and where the bytes left begin.
@@ -103,11 +90,10 @@ fn read_to(i: Input, reader: Reader, whole: bool, at: usize) -> Input
 {
     Input {
         reader,
-        number: i.number,
         whole,
         at,
-        got: i.got,
         ended: false,
+        ..i
     }
 }
 
@@ -116,23 +102,20 @@ fn scan(i: Input, line: &mut [u8; 4096], chunk: &[u8]) -> Input
     ensures { Scanned i result line.old line.new (drop i.at chunk.now) }
 {
     let mut reader = i.reader;
-    let mut at = i.at;
-    while at < chunk.len() {
-        if chunk[at] == 10 {
+    for at in i.at..chunk.len() {
+        if chunk[at] == b'\n' {
             return read_to(i, reader, true, at + 1);
         }
         reader = fields::reader::feed(reader, line, chunk[at]);
-        at += 1;
     }
-    read_to(i, reader, false, at)
+    read_to(i, reader, false, i.at.max(chunk.len()))
 }
 
 // The bytes left of those read last.
 fn scan_left(i: Input, line: &mut [u8; 4096], chunk: &[u8]) -> Input
     ensures { Scanned i result line.old line.new (drop i.at (take i.got chunk.now)) }
 {
-    let got = front(i.got, chunk);
-    scan(i, line, &chunk[..got])
+    scan(i, line, &chunk[..front(i.got, chunk)])
 }
 
 // Goes on to the end of a line, of what was read, or of the input.
@@ -148,6 +131,5 @@ pub fn next(stdin: Stdin, i: Input, line: &mut [u8; 4096], chunk: &mut [u8; 4096
 
 // Prints the front of a buffer. What cannot be printed is lost.
 pub fn print(stdout: Stdout, out: &[u8], n: usize) {
-    let k = front(n, out);
-    let _ = stdout.write_all(&out[..k]);
+    let _ = stdout.write_all(&out[..front(n, out)]);
 }

@@ -1,20 +1,10 @@
 -- The equations of lists that the steps of a turn in place come down to: a list is cut into parts, and each side of an equation is those parts in order.
 use mathlib.Core.Path.{◌≡◌, sym, ap, ◌∙◌}
 use mathlib.Core.List.{List, ◌++◌, append_assoc}
-use Prim.Native.Nat.{ℕ, ◌+◌, ◌-◌, ◌≤◌}
+use Prim.Native.Nat.{ℕ, ◌+◌, ◌≤◌}
 use native.Mathlib.Omega.{arith}
 use lib.ListN.{length, take, drop, length-append, length-take, length-drop}
 use lib.Seq.{length-take-le, take-append-le, take-take, drop-drop, take-add, take_at, drop_at, paste}
-
--- a copy through `held`: h is what it held before and h₁ what it holds between, p is the place that was copied to
-pub hopped : (s h h₁ p : List ℕ) (from to : ℕ) → h₁ ≡ take (from + length h - from) (drop from s) → length h₁ ≡ length h → p ≡ h₁
-    → take to s ++ (p ++ drop (to + length h₁ - to) (drop to s)) ≡ paste s to (drop from s) (length h)
-hopped s h h₁ p from to e n q =
-    let there : from + length h - from ≡ length h = omega arith in
-    let back : to + length h₁ - to ≡ length h = omega arith in
-    let x : p ≡ take (length h) (drop from s) = q ∙ e ∙ ap (λ (m : ℕ). take m (drop from s)) there in
-    let y : drop (to + length h₁ - to) (drop to s) ≡ drop (to + length h) s = ap (λ (m : ℕ). drop m (drop to s)) back ∙ drop-drop (length h) to s in
-    (λ i. take to s ++ (x i ++ y i)) ∙ sym (append_assoc (take to s) (take (length h) (drop from s)) (drop (to + length h) s))
 
 -- a hop to the left takes the bytes moved so far to c bytes more
 pub left_hop : (l d : List ℕ) (k at c : ℕ) → at + k ≤ length l → d ≡ take at (drop k l) ++ drop at l

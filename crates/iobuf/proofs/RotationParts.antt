@@ -1,55 +1,14 @@
 -- The equations of lists that the steps of a turn in place come down to: a list is cut into parts, and each side of an equation is those parts in order.
 use mathlib.Core.Path.{◌≡◌, sym, ap, ◌∙◌}
 use mathlib.Core.Logic.{◌⊎◌, inl, inr}
-use mathlib.Core.List.{List, [], ◌∷◌, ◌++◌, append_assoc, append-nil}
-use Prim.Native.Nat.{ℕ, suc, ◌+◌, ◌-◌, ◌≤◌, ◌<◌}
+use mathlib.Core.List.{List, [], ◌++◌, append_assoc, append-nil}
+use Prim.Native.Nat.{ℕ, ◌+◌, ◌-◌, ◌≤◌, ◌<◌}
 use native.Mathlib.Nat.{le_antisymm}
-use native.Mathlib.Numerals.{add-one}
 use native.Mathlib.Omega.{arith}
-use lib.ListN.{length, take, drop, get_or, set, length-append, length-take, length-drop, take-append-drop, drop_of_length-le}
-use lib.Seq.{length-take-le, take_all, take-suc, drop-cons, get_or-drop, take-take, drop-drop, take-add, set_at, take_at, drop_at, get_or_at, slice_empty, slice-cons, length-slice}
+use lib.ListN.{length, take, drop, length-take, length-drop, take-append-drop, drop_of_length-le}
+use lib.Seq.{length-take-le, take_all, take-take, drop-drop, take-add, take_at, drop_at, slice_empty, length-slice}
 use Rattle.iobuf.specs.Exchange.{exchanged, Next}
 use Rattle.iobuf.proofs.ShiftParts.{rot, to_end, past_end}
-
--- two bytes of a list exchange places
-swap_two : (p m z : List ℕ) (x y i j : ℕ) → length p ≡ i → length (p ++ (x ∷ m)) ≡ j
-    → (d : List ℕ) → d ≡ p ++ (x ∷ (m ++ (y ∷ z))) → set (set d i (get_or d j 0)) j (get_or d i 0) ≡ p ++ (y ∷ (m ++ (x ∷ z)))
-swap_two p m z x y i j pi mj d e =
-    let e₂ : d ≡ (p ++ (x ∷ m)) ++ (y ∷ z) = e ∙ sym (append_assoc p (x ∷ m) (y ∷ z)) in
-    let first : get_or d i 0 ≡ x = ap (λ (w : List ℕ). get_or w i 0) e ∙ get_or_at p x (m ++ (y ∷ z)) 0 i pi in
-    let second : get_or d j 0 ≡ y = ap (λ (w : List ℕ). get_or w j 0) e₂ ∙ get_or_at (p ++ (x ∷ m)) y z 0 j mj in
-    let mj₂ : length (p ++ (y ∷ m)) ≡ j = length-append p (y ∷ m) ∙ sym (length-append p (x ∷ m)) ∙ mj in
-    (λ t. set (set (e t) i (second t)) j (first t))
-    ∙ ap (λ (w : List ℕ). set w j x) (set_at p x (m ++ (y ∷ z)) y i pi ∙ sym (append_assoc p (y ∷ m) (y ∷ z)))
-    ∙ set_at (p ++ (y ∷ m)) y z x j mj₂
-    ∙ append_assoc p (y ∷ m) (x ∷ z)
-
--- one turn of the exchange: the bytes at i and at k + i exchange places
-pub exchange_next : (l d : List ℕ) (k i : ℕ) → i < k → k + i < length l → d ≡ exchanged k i l
-    → set (set d i (get_or d (k + i) 0)) (k + i) (get_or d i 0) ≡ exchanged k (i + 1) l
-unfolding exchanged
-exchange_next l d k i below within e =
-    let x : ℕ = get_or l i 0 in
-    let y : ℕ = get_or l (k + i) 0 in
-    let p : List ℕ = take i (drop k l) in
-    let q : List ℕ = drop (suc i) (take k l) in
-    let r : List ℕ = take i l in
-    let z : List ℕ = drop (suc (k + i)) l in
-    let pi : length p ≡ i = simp (length-take, length-drop) (omega arith) in
-    let qi : length q ≡ k - suc i = length-slice (suc i) k l (omega arith) in
-    let ri : length r ≡ i = length-take-le i l (omega arith) in
-    let j : length (p ++ (x ∷ (q ++ r))) ≡ k + i = simp length-append (omega arith) in
-    let parts : d ≡ p ++ (x ∷ ((q ++ r) ++ (y ∷ z))) =
-    e ∙ (λ t. p ++ (slice-cons i k l 0 below (omega arith) t ++ (r ++ drop-cons l (k + i) 0 within t)))
-    ∙ ap (λ (w : List ℕ). p ++ (x ∷ w)) (sym (append_assoc q r (y ∷ z))) in
-    let more₁ : take (i + 1) (drop k l) ≡ p ++ (y ∷ []) =
-    ap (λ (n : ℕ). take n (drop k l)) (add-one i) ∙ take-suc (drop k l) i 0 (simp length-drop (omega arith)) ∙ ap (λ (b : ℕ). p ++ (b ∷ [])) (get_or-drop k l i 0) in
-    let more₂ : drop (i + 1) (take k l) ≡ q = ap (λ (n : ℕ). drop n (take k l)) (add-one i) in
-    let more₃ : take (i + 1) l ≡ r ++ (x ∷ []) = ap (λ (n : ℕ). take n l) (add-one i) ∙ take-suc l i 0 (omega arith) in
-    let next : k + (i + 1) ≡ suc (k + i) = omega arith in
-    let more₄ : drop (k + (i + 1)) l ≡ z = ap (λ (n : ℕ). drop n l) next in
-    let there : exchanged k (i + 1) l ≡ p ++ (y ∷ ((q ++ r) ++ (x ∷ z))) = (λ t. more₁ t ++ (more₂ t ++ (more₃ t ++ more₄ t))) ∙ simp append_assoc in
-    swap_two p (q ++ r) z x y i (k + i) pi j d parts ∙ sym there
 
 -- once the front has been exchanged with the bytes at k it holds what belongs there, and the rest is cut as it came
 exchanged_front : (l : List ℕ) (k m : ℕ) → k + m ≤ length l → take m (exchanged k m l) ≡ take m (drop k l)

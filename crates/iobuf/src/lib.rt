@@ -19,7 +19,7 @@ use crate::rotation::rotate;
 pub fn rotate_left(s: &mut [u8], n: usize, k: usize)
     ensures { s.new ≡ turned n k s.old }
 {
-    let end = layout::lesser(n, s.len());
+    let end = n.min(s.len());
     if k == 0 {
         return;
     }

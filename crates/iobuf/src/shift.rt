@@ -24,27 +24,13 @@ fn shift_right(s: &mut [u8], saved: &mut [u8], held: &mut [u8], k: usize)
     crate::moves::copy(&saved[..rest], &mut s[..rest]);
 }
 
-// Turns all of `s` left by k through arrays of 512 bytes, of which one holds the shorter side.
-fn shift_narrow(s: &mut [u8], k: usize)
-    requires { (k ≤ length s.old) × (min k (length s.old - k) ≤ 512) }
+// Turns all of `s` left by k through arrays of N bytes, of which one holds the shorter side.
+fn shift_through<const N: usize>(s: &mut [u8], k: usize)
+    requires { (k ≤ length s.old) × (min k (length s.old - k) ≤ N) × (0 < N) × (N ≤ 2048) }
     ensures { s.new ≡ drop k s.old ++ take k s.old }
 {
-    let mut saved = [0u8; 512];
-    let mut held = [0u8; 512];
-    if k <= s.len() - k {
-        shift_left(s, &mut saved, &mut held, k);
-    } else {
-        shift_right(s, &mut saved, &mut held, k);
-    }
-}
-
-// Turns all of `s` left by k through arrays of 2,048 bytes, of which one holds the shorter side.
-fn shift_wide(s: &mut [u8], k: usize)
-    requires { (k ≤ length s.old) × (min k (length s.old - k) ≤ 2048) }
-    ensures { s.new ≡ drop k s.old ++ take k s.old }
-{
-    let mut saved = [0u8; 2048];
-    let mut held = [0u8; 2048];
+    let mut saved = [0u8; N];
+    let mut held = [0u8; N];
     if k <= s.len() - k {
         shift_left(s, &mut saved, &mut held, k);
     } else {
@@ -60,11 +46,9 @@ pub fn shift(s: &mut [u8], k: usize)
     if k == s.len() {
         return;
     }
-    if s.len() <= 16384 {
-        if layout::lesser(k, s.len() - k) <= 512 {
-            shift_narrow(s, k);
-            return;
-        }
+    if s.len() <= 16384 && k.min(s.len() - k) <= 512 {
+        shift_through::<512>(s, k);
+    } else {
+        shift_through::<2048>(s, k);
     }
-    shift_wide(s, k);
 }

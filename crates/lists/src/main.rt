@@ -4,5 +4,5 @@
 #![tactic(auto)]
 
 fn main(rt: HostRuntime) {
-    session::program::replay(rt.stdin(), rt.stdout(), true);
+    session::program::lists(rt.stdin(), rt.stdout());
 }

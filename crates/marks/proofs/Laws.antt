@@ -13,8 +13,8 @@ use lib.Dec.{lit≤}
 use Rattle.layout.specs.Pick.{pick}
 use Rattle.layout.proofs.Tests.{true_or_false}
 use Rattle.domain.specs.declared.FirstCause.{FirstCause}
-use Rattle.domain.specs.declared.Poisoned.{Poisoned}
-use Rattle.domain.specs.declared.Poisoned.TheVariants.{Never, First}
+use Rattle.std.specs.declared.option.Option.{Option}
+use Rattle.std.specs.declared.option.Option.TheVariants.{None, Some}
 use Rattle.domain.specs.Domain.{first_kept}
 use Rattle.model.specs.declared.Counts.{Counts}
 use Rattle.model.specs.Memory.{Lent, flag, cause_in, op_word, has_word, raw_word, ErrorFits, settings_in, poison_in, regions_in, state_in}
@@ -65,23 +65,23 @@ module _ (a b d : ℕ) (store : List ℕ) where
         ∙ get_or-set_other (set store 19 1) 20 19 a 0 (λ e. omega (arith, e))
         ∙ get_or-set_same store 19 1 0 (omega (arith, enough))
 
-    pub poison_at : poison_in (cause_at a b d store) ≡ First (cause_in a b d)
+    pub poison_at : poison_in (cause_at a b d store) ≡ Some (cause_in a b d)
     unfolding poison_in pick flag
-    poison_at = λ i. pick (flag (at_19 i)) (First (cause_in (at_20 i) (at_21 i) (at_22 i))) Never
+    poison_at = λ i. pick (flag (at_19 i)) (Some (cause_in (at_20 i) (at_21 i) (at_22 i))) None
 
 -- ---- the laws
 
 -- the first is kept
-is_first : (store : List ℕ) → flag (get_or store 19 0) ≡ true → poison_in store ≡ First (cause_in (get_or store 20 0) (get_or store 21 0) (get_or store 22 0))
+is_first : (store : List ℕ) → flag (get_or store 19 0) ≡ true → poison_in store ≡ Some (cause_in (get_or store 20 0) (get_or store 21 0) (get_or store 22 0))
 unfolding poison_in pick
-is_first store e = ap (λ (b : Bool). pick b (First (cause_in (get_or store 20 0) (get_or store 21 0) (get_or store 22 0))) Never) e
+is_first store e = ap (λ (b : Bool). pick b (Some (cause_in (get_or store 20 0) (get_or store 21 0) (get_or store 22 0))) None) e
 
-is_never : (store : List ℕ) → flag (get_or store 19 0) ≡ false → poison_in store ≡ Never
+is_never : (store : List ℕ) → flag (get_or store 19 0) ≡ false → poison_in store ≡ None
 unfolding poison_in pick
-is_never store e = ap (λ (b : Bool). pick b (First (cause_in (get_or store 20 0) (get_or store 21 0) (get_or store 22 0))) Never) e
+is_never store e = ap (λ (b : Bool). pick b (Some (cause_in (get_or store 20 0) (get_or store 21 0) (get_or store 22 0))) None) e
 
 module _ (c : Counts) (l : Lent) (cause : FirstCause) (enough : 48 ≤ length l.store) (fits : ErrorFits cause.raw) where
-  abbrev kept : Poisoned
+  abbrev kept : Option FirstCause
   kept = first_kept (poison_in l.store) cause
 
   when_poisoned : flag (get_or l.store 19 0) ≡ true → state_in c (with_store l (poisoned_in cause l.store)) ≡ with_poison (state_in c l) kept
@@ -89,7 +89,7 @@ module _ (c : Counts) (l : Lent) (cause : FirstCause) (enough : 48 ≤ length l.
   when_poisoned e =
       let first = is_first l.store e in
       ap (λ (w : List ℕ). state_in c (with_store l w)) (poisoned_first cause l.store enough e)
-      ∙ ap (with_poison (state_in c l)) (first ∙ sym (ap (λ (p : Poisoned). first_kept p cause) first))
+      ∙ ap (with_poison (state_in c l)) (first ∙ sym (ap (λ (p : Option FirstCause). first_kept p cause) first))
 
   when_not : flag (get_or l.store 19 0) ≡ false → state_in c (with_store l (poisoned_in cause l.store)) ≡ with_poison (state_in c l) kept
   unfolding state_in with_poison
@@ -97,11 +97,11 @@ module _ (c : Counts) (l : Lent) (cause : FirstCause) (enough : 48 ≤ length l.
       let a = op_word cause.op in
       let b = has_word cause.raw in
       let d = raw_word cause.raw in
-      let first = poison_at a b d l.store enough ∙ ap First (cause_read cause fits) in
+      let first = poison_at a b d l.store enough ∙ ap Some (cause_read cause fits) in
       ap (λ (w : List ℕ). state_in c (with_store l w)) (poisoned_new cause l.store enough e)
       ∙ state_with c l (new cause l.store) (at_before a b d l.store) (state_in c l).regions kept
       (ap₂ (regions_in (settings_in l.store).regions) (at_behind a b d l.store 24 (lit≤ tt)) (at_behind a b d l.store 48 (lit≤ tt)))
-      (first ∙ sym (ap (λ (p : Poisoned). first_kept p cause) (is_never l.store e)))
+      (first ∙ sym (ap (λ (p : Option FirstCause). first_kept p cause) (is_never l.store e)))
 
 -- what holds of the words as they are, and with a cause in its place, holds of poisoned words
 either : (P : List ℕ → Type 0) (cause : FirstCause) (store : List ℕ) → P store → P (new cause store) → P (poisoned_in cause store)

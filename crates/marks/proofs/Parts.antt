@@ -4,7 +4,8 @@ use mathlib.Core.List.{List, map}
 use Prim.Native.Nat.{ℕ, ◌<◌}
 use lib.ListN.{get_or, take, drop}
 use lib.Dec.{lit<}
-use Rattle.domain.specs.declared.Poisoned.{Poisoned}
+use Rattle.std.specs.declared.option.Option.{Option}
+use Rattle.domain.specs.declared.FirstCause.{FirstCause}
 use Rattle.model.specs.declared.Opening.{Opening}
 use Rattle.model.specs.declared.Counts.{Counts}
 use Rattle.model.specs.State.{Region, State}
@@ -43,12 +44,12 @@ module _ (u v : List ℕ) (same : (j : ℕ) → j < 19 → get_or u j 0 ≡ get_
   }
 
 -- a state with other regions and another poison
-abbrev pub with_both : State → List Region → Poisoned → State
+abbrev pub with_both : State → List Region → Option FirstCause → State
 with_both s gs p =
     record { settings = s.settings; lengths = s.lengths; regions = gs; poison = p; counts = s.counts; rows = s.rows; free = s.free; ready = s.ready; owners = s.owners; pool = s.pool }
 
 module _ (c : Counts) (l : Lent) (store : List ℕ) (same : (j : ℕ) → j < 19 → get_or store j 0 ≡ get_or l.store j 0) where
-  pub state_with : (gs : List Region) (p : Poisoned) → regions_in (settings_in l.store).regions (drop 24 store) (drop 48 store) ≡ gs → poison_in store ≡ p
+  pub state_with : (gs : List Region) (p : Option FirstCause) → regions_in (settings_in l.store).regions (drop 24 store) (drop 48 store) ≡ gs → poison_in store ≡ p
       → state_in c (with_store l store) ≡ with_both (state_in c l) gs p
   unfolding state_in
   state_with gs p e f = λ i. record {

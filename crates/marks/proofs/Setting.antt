@@ -11,7 +11,7 @@ use lib.Dec.{lit<}
 use borrow.Author.Tests.{lt-ltb, le-ltb}
 use Rattle.layout.specs.Pick.{pick}
 use Rattle.layout.proofs.Tests.{not_both}
-use Rattle.domain.specs.declared.Poisoned.TheVariants.{Never, First}
+use Rattle.std.specs.declared.option.Option.TheVariants.{None, Some}
 use Rattle.completion.specs.declared.Context.TheVariants.{None as bare}
 use Rattle.completion.specs.declared.Refusal.TheVariants.{ForeignPosition}
 use Rattle.completion.specs.declared.Reply.TheVariants.{Ok, No as turnedAway}
@@ -71,7 +71,7 @@ module _ (call : Call) (h : ℕ) (f : Region → Region) (is : (s : State) → c
 
       poison_same : poison_in new ≡ poison_in l.store
       unfolding poison_in
-      poison_same = λ k. pick (flag (before 19 (lit< tt) k)) (First (cause_in (before 20 (lit< tt) k) (before 21 (lit< tt) k) (before 22 (lit< tt) k))) Never
+      poison_same = λ k. pick (flag (before 19 (lit< tt) k)) (Some (cause_in (before 20 (lit< tt) k) (before 21 (lit< tt) k) (before 22 (lit< tt) k))) None
 
       regions_are : regions_in (settings_in l.store).regions (drop 24 new) (drop 48 new) ≡ set s.regions h (f (region_at s h))
       unfolding state_in region_at

@@ -19,12 +19,10 @@ pub fn poison(store: &mut [u64], cause: FirstCause)
     if store[memory::POISON] != 0 {
         return;
     }
-    let op = cause.op;
-    let raw = cause.raw;
     store[memory::POISON] = 1;
-    store[memory::CAUSE_OP] = memory::causes::op_word(op);
-    store[memory::CAUSE_HAS] = memory::causes::has_word(raw);
-    store[memory::CAUSE_RAW] = memory::causes::raw_word(raw);
+    store[memory::CAUSE_OP] = memory::causes::op_word(cause.op);
+    store[memory::CAUSE_HAS] = memory::causes::has_word(cause.raw);
+    store[memory::CAUSE_RAW] = memory::causes::raw_word(cause.raw);
 }
 
 // "report poison with a cause (the first is kept)"

@@ -2,3 +2,4 @@
 pub mod Lengths
 pub mod Live
 pub mod Piece
+pub mod Words

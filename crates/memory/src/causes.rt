@@ -5,6 +5,7 @@ ghost use Rattle.model.specs.Memory.{op_in, error_in, cause_in, op_word, has_wor
 use domain::{FirstCause, Op, OsError};
 
 // An operation in a word.
+#[tactic(auto, unfolding(model::specs::Memory::op_in, layout::specs::Pick::pick))]
 pub fn op_of(word: u64) -> Op
     ensures { result ≡ op_in word }
 {
@@ -17,13 +18,13 @@ pub fn op_of(word: u64) -> Op
 }
 
 // An OS error in two words; the low 32 bits of the second are taken.
-pub fn error_of(has: u64, word: u64) -> OsError
+pub fn error_of(has: u64, word: u64) -> Option<OsError>
     ensures { result ≡ error_in has word }
 {
     if has == 0 {
-        OsError::None
+        None
     } else {
-        OsError::Raw((word % 4294967296) as u32)
+        Some((word % 4294967296) as u32)
     }
 }
 
@@ -50,21 +51,15 @@ pub fn op_word(op: Op) -> u64
 }
 
 // Whether there is an OS error, as a word.
-pub fn has_word(e: OsError) -> u64
+pub fn has_word(e: Option<OsError>) -> u64
     ensures { result ≡ has_word e }
 {
-    match e {
-        OsError::None => 0,
-        OsError::Raw(_) => 1,
-    }
+    crate::flag_word(e.is_some())
 }
 
 // The OS error as a word; 0 where there is none.
-pub fn raw_word(e: OsError) -> u64
+pub fn raw_word(e: Option<OsError>) -> u64
     ensures { result ≡ raw_word e }
 {
-    match e {
-        OsError::None => 0,
-        OsError::Raw(raw) => raw as u64,
-    }
+    e.unwrap_or(0) as u64
 }

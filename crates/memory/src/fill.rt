@@ -12,11 +12,7 @@ pub fn put_words(src: &[u64], dst: &mut [u64], at: usize)
     requires { at + length src.now ≤ length dst.old }
     ensures { dst.new ≡ take at dst.old ++ src.now ++ drop (at + length src.now) dst.old }
 {
-    let mut i: usize = 0;
-    while i < src.len() {
-        dst[at + i] = src[i];
-        i += 1;
-    }
+    dst[at..at + src.len()].copy_from_slice(src);
 }
 
 // The first n words become 0.
@@ -24,11 +20,7 @@ pub fn zeros(dst: &mut [u64], n: usize)
     requires { n ≤ length dst.old }
     ensures { dst.new ≡ replicate n 0 ++ drop n dst.old }
 {
-    let mut i: usize = 0;
-    while i < n {
-        dst[i] = 0;
-        i += 1;
-    }
+    dst[..n].fill(0);
 }
 
 // The first n words become 0, 1, 2 and so on: the free stack at first, row 0 on top.
@@ -36,10 +28,8 @@ pub fn count_up(dst: &mut [u64], n: usize)
     requires { n ≤ length dst.old }
     ensures { dst.new ≡ up_from 0 n ++ drop n dst.old }
 {
-    let mut i: usize = 0;
-    while i < n {
-        dst[i] = i as u64;
-        i += 1;
+    for (i, word) in dst[..n].iter_mut().enumerate() {
+        *word = i as u64;
     }
 }
 

@@ -7,6 +7,7 @@
 // liveregion  a region's record, and the store's poison
 // piece       a piece, found by its region's map
 // settings    the opening's numbers
+// words       what a host lends of row memory besides the rows
 #![tactic(auto)]
 
 pub mod causes;
@@ -15,6 +16,7 @@ pub mod lengths;
 pub mod liveregion;
 pub mod piece;
 pub mod settings;
+pub mod words;
 
 ghost use Rattle.std.specs.Prelude.{◌≡◌};
 ghost use Rattle.model.specs.Memory.{word01};

@@ -5,7 +5,7 @@ ghost use Rattle.memory.specs.Live.{InStore, region_of, live_of};
 ghost use Rattle.model.specs.Opening.{HEAD};
 
 use crate::{CAUSE_HAS, CAUSE_OP, CAUSE_RAW, FORCED, GATE, HEAD, POISON, READ_ONLY, REGION};
-use domain::Poisoned;
+use domain::FirstCause;
 use model::Gate;
 
 // What a submission is asked about its region: LiveRegion without its map, which stays where it lies (D-5).
@@ -20,6 +20,7 @@ pub struct LiveRegion {
 }
 
 // A gate in a word.
+#[tactic(auto, unfolding(model::specs::Memory::gate_in, layout::specs::Pick::pick))]
 fn gate_of(word: u64) -> Gate
     ensures { result ≡ gate_in word }
 {
@@ -61,14 +62,11 @@ pub fn region_at(store: &[u64], handle: u64) -> LiveRegion
 }
 
 // Whether the store is poisoned, and by which cause first (Domain::poisoned); not poisoned where the words are too few.
-pub fn poisoned(store: &[u64]) -> Poisoned
+pub fn poisoned(store: &[u64]) -> Option<FirstCause>
     ensures { HEAD ≤ length store.now → result ≡ poison_in store.now }
 {
-    if store.len() < HEAD {
-        return Poisoned::Never;
+    if store.len() < HEAD || store[POISON] == 0 {
+        return None;
     }
-    if store[POISON] == 0 {
-        return Poisoned::Never;
-    }
-    Poisoned::First(crate::causes::cause_of(store[CAUSE_OP], store[CAUSE_HAS], store[CAUSE_RAW]))
+    Some(crate::causes::cause_of(store[CAUSE_OP], store[CAUSE_HAS], store[CAUSE_RAW]))
 }

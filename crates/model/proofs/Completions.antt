@@ -10,14 +10,14 @@ use lib.Seq.{get_or-append-add}
 use Rattle.layout.specs.Pick.{pick}
 use Rattle.domain.specs.declared.Op.{Op}
 use Rattle.domain.specs.declared.Op.TheVariants.{None as noOp, Read as readOp, Write as writeOp, Flush as flushOp}
-use Rattle.domain.specs.declared.OsError.{OsError}
-use Rattle.domain.specs.declared.OsError.TheVariants.{None as noError, Raw}
+use Rattle.std.specs.declared.option.Option.{Option}
+use Rattle.std.specs.declared.option.Option.TheVariants.{None, Some}
 use Rattle.domain.specs.declared.FirstCause.{FirstCause}
 use Rattle.completion.specs.declared.WriteTicket.{WriteTicket}
 use Rattle.completion.specs.declared.Outcome.{Outcome}
 use Rattle.completion.specs.declared.Outcome.TheVariants.{Written, Receipt, Read, Unknown, Interrupted, Corruption, Io, QueueFull, Poisoned as poisoned_by}
-use Rattle.completion.specs.declared.Buffer.{Buffer}
-use Rattle.completion.specs.declared.Buffer.TheVariants.{Back, Lost}
+use Rattle.completion.specs.Buffers.{Buffer}
+use Rattle.std.specs.declared.option.Option.TheVariants.{Some as Back, None as Lost}
 use Rattle.completion.specs.declared.Completion.{Completion}
 use Rattle.model.specs.declared.Opening.{Opening}
 use Rattle.model.specs.Memory.{flag, op_in, error_in, cause_in, range_in, ticket_in, outcome_in, buffer_in, completion_in, op_word, has_word, raw_word, outcome_words, buffer_words, generation_word, completion_words, ErrorFits, TicketOf, OutcomeFits, CompletionFits}
@@ -32,10 +32,10 @@ op_read readOp = refl
 op_read writeOp = refl
 op_read flushOp = refl
 
-error_read : (e : OsError) → ErrorFits e → error_in (has_word e) (raw_word e) ≡ e
+error_read : (e : Option ℕ) → ErrorFits e → error_in (has_word e) (raw_word e) ≡ e
 unfolding error_in has_word raw_word ErrorFits flag pick
-error_read noError f = refl
-error_read (Raw n) f = ap Raw (mod-eq_of_lt f)
+error_read None f = refl
+error_read (Some n) f = ap Some (mod-eq_of_lt f)
 
 pub cause_read : (e : FirstCause) → ErrorFits e.raw → cause_in (op_word e.op) (has_word e.raw) (raw_word e.raw) ≡ e
 unfolding cause_in
@@ -56,7 +56,7 @@ outcome_long (poisoned_by e) = refl
 
 buffer_long : (b : Buffer) → length (buffer_words b) ≡ 3
 unfolding buffer_words
-buffer_long (Back b n) = refl
+buffer_long (Back h) = refl
 buffer_long Lost = refl
 
 behind : (xs ys : List ℕ) (k n j : ℕ) → length xs ≡ k → k + n ≡ j → get_or (xs ++ ys) j 0 ≡ get_or ys n 0
@@ -70,7 +70,7 @@ long c =
 
 buffer_read : (b : Buffer) (rest : List ℕ) → buffer_in (get_or (buffer_words b ++ rest) 0 0) (get_or (buffer_words b ++ rest) 1 0) (get_or (buffer_words b ++ rest) 2 0) ≡ b
 unfolding buffer_in buffer_words flag pick
-buffer_read (Back b n) rest = refl
+buffer_read (Back h) rest = refl
 buffer_read Lost rest = refl
 
 -- a ticket, of its words

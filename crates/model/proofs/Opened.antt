@@ -8,7 +8,7 @@ use lib.ListN.{length, get_or, take, drop, replicate, length-replicate, length-d
 use lib.Seq.{take_at, drop_at, take-append-le, drop-append-le, take-take, get_or-take, get_or-drop, length-take-le, take-add}
 use lib.Dec.{lit<}
 use Rattle.layout.specs.Pick.{pick}
-use Rattle.domain.specs.declared.Poisoned.TheVariants.{Never}
+use Rattle.std.specs.declared.option.Option.TheVariants.{None}
 use Rattle.model.specs.declared.Opening.{Opening}
 use Rattle.model.specs.State.{Region, Owner, Owner.host, freed, up_from}
 use Rattle.model.specs.Opening.{at_first, opened, plan_in, plans_in, opens}
@@ -102,7 +102,7 @@ opened_state o plan l h =
       settings = settings_read o plan l listed few i;
       lengths = lengths_read o plan l listed few i;
       regions = regions_read o plan l listed few i;
-      poison = Never;
+      poison = None;
       counts = fresh;
       rows = rows_read o plan l listed few i;
       free = free_read o plan l listed few i;

@@ -10,8 +10,11 @@
 use Rattle.std.specs.Prelude.{◌≡◌, Bool, true, false, not, ◌&&◌, List, [], ◌∷◌, ◌++◌, map, ℕ, zero, suc, ◌*◌, ◌<◌, ◌%◌, ◌^◌, length, get_or, take, drop, replicate, leb, eqb}
 use Rattle.layout.specs.Pick.{pick}
 use Rattle.regionmap.specs.Words.{position_of}
-use Rattle.domain.specs.declared.{Op.Op, OsError.OsError, FirstCause.FirstCause, Poisoned.Poisoned}
-use Rattle.completion.specs.declared.{WriteTicket.WriteTicket, Range.Range, Outcome.Outcome, Buffer.Buffer, Completion.Completion}
+use Rattle.domain.specs.declared.{Op.Op, FirstCause.FirstCause}
+use Rattle.std.specs.declared.option.Option.{Option}
+use Rattle.completion.specs.declared.{WriteTicket.WriteTicket, Range.Range, Outcome.Outcome, Completion.Completion}
+use Rattle.completion.specs.Buffers.{Buffer}
+use Rattle.std.specs.declared.option.Option.TheVariants.{Some as Back, None as Lost}
 use Rattle.model.specs.declared.{Opening.Opening, Lengths.Lengths, Gate.Gate, Counts.Counts, Row.Row}
 use Rattle.model.specs.State.{Region, Owner, Owner.host, Owner.table, Owner.lost, State, freed, up_from, receipt_made}
 use Rattle.model.specs.Opening.{opens, plan_in, HEAD, REGION}
@@ -99,15 +102,15 @@ unfoldable pub op_in : ℕ → Op
 op_in n = pick (eqb n 0) Op.None (pick (eqb n 1) Op.Read (pick (eqb n 2) Op.Write Op.Flush))
 
 -- an OS error, of two words: whether there is one, and the error, whose low 32 bits count
-unfoldable pub error_in : ℕ → ℕ → OsError
-error_in has n = pick (flag has) (OsError.Raw (n % 2 ^ 32)) OsError.None
+unfoldable pub error_in : ℕ → ℕ → Option ℕ
+error_in has n = pick (flag has) (Option.Some (n % 2 ^ 32)) Option.None
 
 unfoldable pub cause_in : ℕ → ℕ → ℕ → FirstCause
 cause_in op has n = record { op = op_in op; raw = error_in has n }
 
-unfoldable pub poison_in : List ℕ → Poisoned
+unfoldable pub poison_in : List ℕ → Option FirstCause
 poison_in s =
-    pick (flag (get_or s POISON 0)) (Poisoned.First (cause_in (get_or s CAUSE_OP 0) (get_or s CAUSE_HAS 0) (get_or s CAUSE_RAW 0))) Poisoned.Never
+    pick (flag (get_or s POISON 0)) (Option.Some (cause_in (get_or s CAUSE_OP 0) (get_or s CAUSE_HAS 0) (get_or s CAUSE_RAW 0))) Option.None
 
 unfoldable pub gate_in : ℕ → Gate
 gate_in n = pick (eqb n 0) Gate.Open (pick (eqb n 1) Gate.Recycled Gate.Released)
@@ -163,7 +166,7 @@ outcome_in o c =
 
 -- a buffer, of three words
 unfoldable pub buffer_in : ℕ → ℕ → ℕ → Buffer
-buffer_in back b n = pick (flag back) (Buffer.Back b n) Buffer.Lost
+buffer_in back b n = pick (flag back) (Back (record { buffer = b; len = n })) Lost
 
 unfoldable pub completion_in : Opening → List ℕ → Completion
 completion_in o c = record { tag = get_or c 0 0; outcome = outcome_in o c; buf = buffer_in (get_or c 10 0) (get_or c 11 0) (get_or c 12 0) }
@@ -198,13 +201,13 @@ op_word Op.Read = 1
 op_word Op.Write = 2
 op_word Op.Flush = 3
 
-unfoldable pub has_word : OsError → ℕ
-has_word OsError.None = 0
-has_word (OsError.Raw n) = 1
+unfoldable pub has_word : Option ℕ → ℕ
+has_word Option.None = 0
+has_word (Option.Some n) = 1
 
-unfoldable pub raw_word : OsError → ℕ
-raw_word OsError.None = 0
-raw_word (OsError.Raw n) = n
+unfoldable pub raw_word : Option ℕ → ℕ
+raw_word Option.None = 0
+raw_word (Option.Some n) = n
 
 -- words 1 to 9: the outcome, the region's id, start, end, the ticket's need, the receipt's need or the read's length, and a cause; what a case has
 -- no use for is 0
@@ -221,8 +224,8 @@ outcome_words (Outcome.Poisoned e) = 9 ∷ 0 ∷ 0 ∷ 0 ∷ 0 ∷ 0 ∷ op_word
 
 -- words 10 to 12
 unfoldable pub buffer_words : Buffer → List ℕ
-buffer_words (Buffer.Back b n) = 1 ∷ b ∷ n ∷ []
-buffer_words Buffer.Lost = 0 ∷ 0 ∷ 0 ∷ []
+buffer_words (Back h) = 1 ∷ h.buffer ∷ h.len ∷ []
+buffer_words Lost = 0 ∷ 0 ∷ 0 ∷ []
 
 -- word 13
 unfoldable pub generation_word : Outcome → ℕ
@@ -241,9 +244,9 @@ completion_words c = c.tag ∷ (outcome_words c.outcome ++ (buffer_words c.buf +
 
 -- What makes a completion lie in words: an OS error has 32 bits, a ticket is the opening's and its generation has 32 bits, and a receipt is the one
 -- for its ticket.
-unfoldable pub ErrorFits : OsError → Type 0
-ErrorFits OsError.None = Unit {0}
-ErrorFits (OsError.Raw n) = n < 2 ^ 32
+unfoldable pub ErrorFits : Option ℕ → Type 0
+ErrorFits Option.None = Unit {0}
+ErrorFits (Option.Some n) = n < 2 ^ 32
 
 pub record TicketOf (o : Opening) (t : WriteTicket) : Type 0 where
   pub volume : t.volume ≡ o.volume

@@ -3,7 +3,7 @@ use Rattle.std.specs.Prelude.{Bool, true, false, ◌&&◌, ◌||◌, not, List, 
 use Rattle.layout.specs.Block.{is_block, on_block}
 use Rattle.regionmap.specs.Map.{Run, Map, ascends, Extent, extents, all_apart, all_within}
 use Rattle.regionmap.specs.Words.{map_in}
-use Rattle.domain.specs.declared.Poisoned.TheVariants as Poisoned
+use Rattle.std.specs.declared.option.Option.{Option}
 use Rattle.model.specs.declared.{Opening.Opening, Lengths.Lengths}
 use Rattle.model.specs.declared.Gate.TheVariants as Gate
 use Rattle.model.specs.State.{Region, State, Owner.host, fresh, freed, up_from}
@@ -183,7 +183,7 @@ opened o ps l pool =
       settings = o;
       lengths = l;
       regions = map at_first ps;
-      poison = Poisoned.Never;
+      poison = Option.None;
       counts = fresh;
       rows = replicate o.depth (freed 0);
       free = up_from 0 o.depth;

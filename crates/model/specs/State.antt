@@ -1,7 +1,8 @@
 -- The table's whole state as one value, as document 01 names its parts.
 use Rattle.std.specs.Prelude.{Bool, false, not, ◌||◌, List, [], ◌∷◌, ℕ, zero, suc, ◌+◌, ◌-◌, ◌^◌, eqb}
 use Rattle.regionmap.specs.Map.{Map}
-use Rattle.domain.specs.declared.Poisoned.{Poisoned}
+use Rattle.std.specs.declared.option.Option.{Option}
+use Rattle.domain.specs.declared.FirstCause.{FirstCause}
 use Rattle.completion.specs.declared.{WriteTicket.WriteTicket, DurableReceipt.DurableReceipt, Completion.Completion}
 use Rattle.model.specs.declared.{Opening.Opening, Lengths.Lengths, Gate.Gate, Counts.Counts, Row.Row, Awaits.Awaits}
 
@@ -43,7 +44,7 @@ pub record State : Type 0 where
   -- "A handle is a region's place in the list, from 0."
   pub regions : List Region
   -- "the first cause kept"
-  pub poison : Poisoned
+  pub poison : Option FirstCause
   pub counts : Counts
   pub rows : List Row
   -- the free stack, its top first
@@ -57,14 +58,14 @@ pub record State : Type 0 where
 
 -- ---- a state with another part: an update says only what changes
 
-abbrev state_of : Opening → Lengths → List Region → Poisoned → Counts → List Row → List ℕ → List Completion → List Owner → List ℕ → State
+abbrev state_of : Opening → Lengths → List Region → Option FirstCause → Counts → List Row → List ℕ → List Completion → List Owner → List ℕ → State
 state_of o l gs p c rs ns cs os bs =
     record { settings = o; lengths = l; regions = gs; poison = p; counts = c; rows = rs; free = ns; ready = cs; owners = os; pool = bs }
 
 abbrev pub regions_as : List Region → State → State
 regions_as gs s = state_of s.settings s.lengths gs s.poison s.counts s.rows s.free s.ready s.owners s.pool
 
-abbrev pub poison_as : Poisoned → State → State
+abbrev pub poison_as : Option FirstCause → State → State
 poison_as p s = state_of s.settings s.lengths s.regions p s.counts s.rows s.free s.ready s.owners s.pool
 
 abbrev pub counts_as : Counts → State → State

@@ -2,7 +2,7 @@
 // Kind, Split, Table and Inner). The state, the calls and what they do are definitions in specs/; the crates above run them.
 #![tactic(auto)]
 
-use completion::{Refusal, WriteTicket};
+use completion::WriteTicket;
 use domain::FirstCause;
 use platform::{Answer, Flushed};
 use regionmap::{FoundPiece, Position};
@@ -141,20 +141,10 @@ pub enum Lookup {
     Mark,
 }
 
-// How a question, or several in their order, are answered: yes to all, or the first no.
+// What an accepted submission comes to: the row on top of the free stack, this kind of operation, this first piece.
 #[derive(Clone, Copy)]
-pub enum Asked {
-    Yes,
-    No(Refusal),
-}
-
-// What a submission comes to: turned away, or accepted in the row on top of the free stack, as this kind of operation, with this first piece.
-#[derive(Clone, Copy)]
-pub enum Verdict {
-    No(Refusal),
-    Accept {
-        row: u64,
-        kind: Kind,
-        piece: FoundPiece,
-    },
+pub struct Accepted {
+    pub row: u64,
+    pub kind: Kind,
+    pub piece: FoundPiece,
 }

@@ -10,10 +10,10 @@ use Rattle.model.specs.declared.{Opening.Opening, Counts.Counts, Row.Row}
 use Rattle.model.specs.State.{fresh}
 use Rattle.model.specs.Opening.{opens}
 use Rattle.model.specs.Memory.{Lent, lengths_of, opened_lent, lent_after}
-use Rattle.opening.specs.declared.Opened.TheVariants as Opened
-use Rattle.opening.specs.Opened.{refused, OpensTo}
+use Rattle.std.specs.declared.result.Result.{Result}
+use Rattle.opening.specs.Opened.{Opened, refused, OpensTo}
 
-told : (t : Bool) (c : Counts) → Opened.Table c ≡ pick t (Opened.Table fresh) refused → (t ≡ true) × (c ≡ fresh)
+told : (t : Bool) (c : Counts) → ◌≡◌ {A = Opened} (Result.Ok c) (pick t (Result.Ok fresh) refused) → (t ≡ true) × (c ≡ fresh)
 unfolding pick
 told true c e = (refl, cc)
 told false c e = absurd (let z : ◌≡◌ {A = ℕ} 0 1 = cc in omega arith)
@@ -24,7 +24,7 @@ module _ (o : Opening) (plan : List ℕ) (l : Lent) where
   pool_kept true = refl
   pool_kept false = refl
 
-  module _ (c : Counts) (rows : List Row) (store free ready owners : List ℕ) (z : OpensTo o plan l (Opened.Table c) rows store free ready owners) where
+  module _ (c : Counts) (rows : List Row) (store free ready owners : List ℕ) (z : OpensTo o plan l (Result.Ok c) rows store free ready owners) where
     pub admitted : opens o plan (lengths_of l) ≡ true
     admitted = (told (opens o plan (lengths_of l)) c z.reply).0
 
@@ -37,11 +37,11 @@ module _ (o : Opening) (plan : List ℕ) (l : Lent) where
         λ j. record { rows = z.rows_are j; store = z.store_is j; free = z.free_is j; ready = z.ready_is j; owners = z.owners_are j; pool = sym (pool_kept (opens o plan (lengths_of l))) j }
 
   -- a refusal is that of one that is not admitted: what is lent stays
-  not_told : (t : Bool) (f : Refusal) → Opened.No f ≡ pick t (Opened.Table fresh) refused → t ≡ false
+  not_told : (t : Bool) (f : Refusal) → ◌≡◌ {A = Opened} (Result.Err f) (pick t (Result.Ok fresh) refused) → t ≡ false
   unfolding pick
   not_told true f e = absurd (let z : ◌≡◌ {A = ℕ} 0 1 = cc in omega arith)
   not_told false f e = refl
 
-  pub unopened : (f : Refusal) (rows : List Row) (store free ready owners : List ℕ) → OpensTo o plan l (Opened.No f) rows store free ready owners → lent_after o plan l ≡ l
+  pub unopened : (f : Refusal) (rows : List Row) (store free ready owners : List ℕ) → OpensTo o plan l (Result.Err f) rows store free ready owners → lent_after o plan l ≡ l
   unfolding lent_after pick
   unopened f rows store free ready owners z = λ j. pick (not_told (opens o plan (lengths_of l)) f z.reply j) (opened_lent o plan l) l

@@ -9,7 +9,7 @@ use native.Mathlib.Nat.{not-suc-le-zero, le_of_suc-le-suc}
 use native.Mathlib.Numerals.{add-one}
 use native.Mathlib.Omega.{arith}
 use borrow.Author.Tests.{leb-true, ltb-true, ltb-false}
-use lib.ListN.{length, get_or, take, drop, length-take, length-drop, length-map, drop_of_length-le, get_or-append}
+use lib.ListN.{length, get_or, take, drop, length-take, length-drop, length-map, length-append, drop_of_length-le, get_or-append}
 use lib.Seq.{drop-cons, drop-drop, get_or-drop, get_or-take, get_or-append-add, take_all}
 use lib.Dec.{leb, ltb}
 use Rattle.layout.specs.Pick.{pick}
@@ -19,7 +19,7 @@ use Rattle.regionmap.specs.Words.{runs_in, map_in}
 use Rattle.model.specs.Opening.{generation_rule, runs_rule, region_rule, map_rule, each_region, all_extents, plan_in, plans_in}
 use Rattle.model.proofs.Maps.{runs_length}
 use Rattle.opening.proofs.Walk.{Walk}
-use Rattle.opening.proofs.Steps.{run_words, runs_from, runs_step, runs_end, runs_all, region_words, plans_step, plans_end, plans_all}
+use Rattle.opening.proofs.Steps.{run_words, runs_from, runs_step, runs_end, runs_all, region_words, plans_step, plans_end}
 use Rattle.opening.specs.Plans.{plans_from}
 
 -- what stands past the row's end
@@ -74,9 +74,6 @@ row_step ws n h l = ap all_extents (plans_step ws n h l)
 pub row_end : (ws : List ℕ) (n h : ℕ) → n ≤ h → row_from ws n h ≡ []
 unfolding all_extents
 row_end ws n h l = ap all_extents (plans_end ws n h l)
-
-pub row_all : (ws : List ℕ) (n : ℕ) → row_from ws n 0 ≡ row ws n
-row_all ws n = ap all_extents (plans_all ws n)
 
 -- ---- the runs of a map
 
@@ -177,6 +174,8 @@ count_word ws h = get_or-drop 2 (take 70 (drop (70 * h) ws)) 3 0 ∙ get_or-take
 pub region_count : (ws : List ℕ) (h : ℕ) → length (extents (map_in (map_words ws h))) ≡ suc (get_or ws (70 * h + 5) 0)
 region_count ws h = map_count (map_words ws h) ∙ ap suc (count_word ws h)
 
+pub ruleset rows_counted = (row_step, row_end, region_count, length-append)
+
 -- the j-th run from a region on: one of its own, or of the regions behind it
 module _ (ws : List ℕ) (n h j : ℕ) (l : h < n) where
   abbrev own : List Extent
@@ -193,6 +192,8 @@ module _ (ws : List ℕ) (n h j : ℕ) (l : h < n) where
       ap (λ (es : List Extent). get_or es j no_bytes) (row_step ws n h l)
       ∙ ap (λ (k : ℕ). get_or (own ++ row_from ws n (h + 1)) k no_bytes) place
       ∙ get_or-append-add own (row_from ws n (h + 1)) (j - (1 + get_or ws (70 * h + 5) 0)) no_bytes
+
+pub ruleset rows_taken = (row_end, row_here, row_behind)
 
 -- a region's map as the code lends it: all of the region's words but two
 pub lent_map : (ws : List ℕ) (h : ℕ)

@@ -50,6 +50,8 @@ runs_all ws n =
     let none : n - 0 ≡ n = omega arith in
     ap (λ (k : ℕ). runs_in k (drop 4 ws)) none
 
+pub ruleset runs_taken = (runs_step, runs_end, runs_all)
+
 -- a part up to the end
 pub to_the_end : (k : ℕ) (ws : List ℕ) → take (length ws - k) (drop k ws) ≡ drop k ws
 to_the_end k ws = take_all (length ws - k) (drop k ws) (simp length-drop (omega arith))

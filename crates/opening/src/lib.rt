@@ -18,35 +18,19 @@ ghost use Rattle.model.specs.Opening.{opens};
 ghost use Rattle.opening.specs.Opened.{opened_with};
 
 use completion::Refusal;
-use layout::both;
 use model::{Counts, Lengths, Opening};
 
 // Whether all rules of an opening hold.
 pub fn admits(o: Opening, plan: &[u64], l: Lengths) -> bool
     ensures { result ≡ opens o plan.now l }
 {
-    if !numbers::numbers(o) {
-        return false;
-    }
-    if !numbers::lengths(o, l, plan.len() as u64) {
-        return false;
-    }
     let regions = o.regions as usize;
-    if !crate::plans::each_region(plan, regions, o.block) {
-        return false;
-    }
-    let card = both(
-        crate::extents::within_rule(plan, regions, o.card),
-        both(crate::extents::apart_rule(plan, regions), true),
-    );
-    both(crate::plans::ids_rule(plan, regions), card)
-}
-
-// The reply to an opening: the table's counts, or 13.
-#[derive(Clone, Copy)]
-pub enum Opened {
-    Table(Counts),
-    No(Refusal),
+    numbers::numbers(o)
+        && numbers::lengths(o, l, plan.len() as u64)
+        && crate::plans::each_region(plan, regions, o.block)
+        && crate::plans::ids_rule(plan, regions)
+        && crate::extents::within_rule(plan, regions, o.card)
+        && crate::extents::apart_rule(plan, regions)
 }
 
 // The counts at first: no live row, no completion, no submission.
@@ -60,13 +44,12 @@ pub fn fresh() -> Counts
     }
 }
 
-// The reply, by how many rows there are.
-pub fn reply(depth: usize) -> Opened
+// The reply to an opening, by how many rows it has, if it is admitted: the table's counts, or 13.
+pub fn reply(depth: Option<usize>) -> Result<Counts, Refusal>
     ensures { result ≡ opened_with depth }
 {
-    if depth == 0 {
-        Opened::No(Refusal::Unfit)
-    } else {
-        Opened::Table(fresh())
+    match depth {
+        Some(_) => Ok(fresh()),
+        None => Err(Refusal::Unfit),
     }
 }

@@ -2,7 +2,6 @@
 ghost use Rattle.std.specs.Prelude.{◌≡◌, ◌*◌, ◌≤◌, leb};
 ghost use Rattle.model.specs.Opening.{between, all_true, number_rules, length_rules, capacity_rule, REGION};
 
-use layout::both;
 use memory::{HEAD, REGION};
 use model::{Lengths, Opening};
 
@@ -10,33 +9,32 @@ use model::{Lengths, Opening};
 fn from_to(lo: u64, hi: u64, x: u64) -> bool
     ensures { result ≡ between lo hi x }
 {
-    both(lo <= x, x <= hi)
+    lo <= x && x <= hi
 }
 
 // "capacity a positive multiple of the block, at most 65,536"
 fn capacity_rule(o: Opening) -> bool
     ensures { result ≡ capacity_rule o }
 {
-    both(
-        from_to(1, 65536, o.capacity),
-        layout::on_block(o.block, o.capacity),
-    )
+    from_to(1, 65536, o.capacity) && layout::on_block(o.block, o.capacity)
 }
 
 // The rules on the opening's own numbers.
+#[tactic(auto, unfolding(model::specs::Opening::all_true, model::specs::Opening::number_rules))]
 pub(crate) fn numbers(o: Opening) -> bool
     ensures { result ≡ all_true (number_rules o) }
 {
-    let card = both(o.card <= 0x7fff_ffff_ffff_ffff, true);
-    let regions = both(from_to(1, 8, o.regions), card);
-    let lifetime = both(from_to(1, 0x4000_0000_0000_0000, o.lifetime), regions);
-    let capacity = both(capacity_rule(o), lifetime);
-    let buffers = both(from_to(1, 4096, o.buffers), capacity);
-    let block = both(layout::is_block(o.block), buffers);
-    both(from_to(1, 4096, o.depth), block)
+    from_to(1, 4096, o.depth)
+        && layout::is_block(o.block)
+        && from_to(1, 4096, o.buffers)
+        && capacity_rule(o)
+        && from_to(1, 0x4000_0000_0000_0000, o.lifetime)
+        && from_to(1, 8, o.regions)
+        && o.card <= 0x7fff_ffff_ffff_ffff
 }
 
 // "the pool holds exactly count × capacity bytes", and "the row memory long enough".
+#[tactic(auto, unfolding(model::specs::Opening::all_true, model::specs::Opening::length_rules))]
 pub(crate) fn lengths(o: Opening, l: Lengths, plan: u64) -> bool
     requires { (o.buffers ≤ 4096) × ((o.capacity ≤ 65536) × ((o.depth ≤ 4096) × (o.regions ≤ 8))) }
     ensures { result ≡ all_true (length_rules o (leb (REGION * o.regions) plan) l) }
@@ -45,8 +43,11 @@ pub(crate) fn lengths(o: Opening, l: Lengths, plan: u64) -> bool
     let ready = 1 + 16 * o.depth;
     let listed = REGION as u64 * o.regions;
     let store = HEAD as u64 + listed;
-    let owned = both(ready <= l.ready, o.buffers <= l.owners);
-    let stacks = both(store <= l.store, both(o.depth <= l.free, owned));
-    let rows = both(o.depth <= l.rows, stacks);
-    both(l.pool == bytes, both(rows, both(listed <= plan, true)))
+    l.pool == bytes
+        && o.depth <= l.rows
+        && store <= l.store
+        && o.depth <= l.free
+        && ready <= l.ready
+        && o.buffers <= l.owners
+        && listed <= plan
 }

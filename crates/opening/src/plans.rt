@@ -8,27 +8,22 @@ ghost use Rattle.model.specs.Opening.{runs_on_block, blocks_rule, map_rule, regi
 ghost use Rattle.opening.specs.Plans.{ids_from};
 ghost use Rattle.model.specs.Memory.{MAP_WORDS};
 
-use layout::both;
 use memory::REGION;
 
 // "Starts strictly ascend, above 0 and below the capacity."
+#[tactic(auto, using(crate::proofs::Steps::runs_taken), unfolding(regionmap::specs::Map::ascends))]
 fn starts_rise(map: &[u64], count: usize) -> bool
     requires { (4 + 2 * count ≤ length map.now) × (count ≤ 32) }
     ensures { result ≡ ascends 0 (runs_in count (drop 4 map.now)) (get_or map.now 1 0) }
 {
     let capacity = map[1];
     let mut lo: u64 = 0;
-    let mut j: usize = 0;
-    while j < count {
+    for j in 0..count {
         let start = map[4 + 2 * j];
-        if start <= lo {
-            return false;
-        }
-        if capacity <= start {
+        if start <= lo || capacity <= start {
             return false;
         }
         lo = start;
-        j += 1;
     }
     true
 }
@@ -38,12 +33,7 @@ fn run_on_block(map: &[u64], j: usize, block: u64) -> bool
     requires { (6 + 2 * j ≤ length map.now) × (j < 32) }
     ensures { result ≡ (on_block block (get_or map.now (4 + 2 * j) 0) && on_block block (get_or map.now (5 + 2 * j) 0)) }
 {
-    let start = map[4 + 2 * j];
-    let offset = map[5 + 2 * j];
-    both(
-        layout::on_block(block, start),
-        layout::on_block(block, offset),
-    )
+    layout::on_block(block, map[4 + 2 * j]) && layout::on_block(block, map[5 + 2 * j])
 }
 
 // "Positions, card offsets .. are multiples of the block": of all further runs.
@@ -51,52 +41,43 @@ fn runs_on_block(map: &[u64], count: usize, block: u64) -> bool
     requires { (4 + 2 * count ≤ length map.now) × (count ≤ 32) }
     ensures { result ≡ runs_on_block block (runs_in count (drop 4 map.now)) }
 {
-    let mut j: usize = 0;
-    while j < count {
-        if !run_on_block(map, j, block) {
-            return false;
-        }
-        j += 1;
-    }
-    true
+    (0..count).all(|j| run_on_block(map, j, block))
 }
 
 // The numbers of a region's map are multiples of the block.
+#[tactic(auto, unfolding(model::specs::Opening::blocks_rule, regionmap::specs::Words::map_in))]
 fn blocks_rule(map: &[u64], count: usize, block: u64) -> bool
     requires { (4 + 2 * count ≤ length map.now) × ((count ≤ 32) × (count ≡ get_or map.now 3 0)) }
     ensures { result ≡ blocks_rule block (map_in map.now) }
 {
-    let first = layout::on_block(block, map[0]);
-    let capacity = layout::on_block(block, map[1]);
-    let data = layout::on_block(block, map[2]);
-    both(
-        first,
-        both(capacity, both(data, runs_on_block(map, count, block))),
-    )
+    layout::on_block(block, map[0])
+        && layout::on_block(block, map[1])
+        && layout::on_block(block, map[2])
+        && runs_on_block(map, count, block)
 }
 
 // The rules on one region's map.
+#[tactic(auto, using(model::proofs::Maps::runs_length), unfolding(model::specs::Opening::map_rule, regionmap::specs::Words::map_in))]
 fn map_rule(map: &[u64], block: u64) -> bool
     requires { length map.now ≡ MAP_WORDS }
     ensures { result ≡ map_rule block (map_in map.now) }
 {
-    let runs = map[3];
-    if 32 < runs {
-        return false;
-    }
-    let count = runs as usize;
-    let sizes = both(0 < map[1], map[2] <= map[1]);
-    let starts = both(starts_rise(map, count), blocks_rule(map, count, block));
-    both(true, both(sizes, starts))
+    let count = map[3] as usize;
+    count <= 32
+        && 0 < map[1]
+        && map[2] <= map[1]
+        && starts_rise(map, count)
+        && blocks_rule(map, count, block)
 }
 
 // The rules on one region, whose words these are.
+#[tactic(auto, using(crate::proofs::Steps::to_the_end), unfolding(model::specs::Opening::region_rule, model::specs::Opening::plan_in))]
 fn region_rule(region: &[u64], block: u64) -> bool
     requires { length region.now ≡ REGION }
     ensures { result ≡ region_rule block (plan_in region.now) }
 {
     let generation = region[1];
-    both(generation < 0x1_0000_0000, map_rule(&region[2..], block))
+    generation < 0x1_0000_0000 && map_rule(&region[2..], block)
 }
 
 // The rules on each region of the plan.
@@ -104,16 +85,7 @@ pub fn each_region(plan: &[u64], regions: usize, block: u64) -> bool
     requires { (REGION * regions ≤ length plan.now) × (regions ≤ 8) }
     ensures { result ≡ each_region block (plans_in regions plan.now) }
 {
-    let mut h: usize = 0;
-    while h < regions {
-        let at = REGION * h;
-        let end = at + REGION;
-        if !region_rule(&plan[at..end], block) {
-            return false;
-        }
-        h += 1;
-    }
-    true
+    (0..regions).all(|h| region_rule(&plan[REGION * h..REGION * h + REGION], block))
 }
 
 // Whether a region from the one at `from` on has the id.
@@ -121,14 +93,7 @@ fn id_among(plan: &[u64], from: usize, regions: usize, id: u64) -> bool
     requires { (REGION * regions ≤ length plan.now) × ((regions ≤ 8) × (from ≤ regions)) }
     ensures { result ≡ among id (ids_from plan.now regions from) }
 {
-    let mut h = from;
-    while h < regions {
-        if id == plan[REGION * h] {
-            return true;
-        }
-        h += 1;
-    }
-    false
+    (from..regions).any(|h| id == plan[REGION * h])
 }
 
 // "distinct ids": no region has the id of one behind it.
@@ -136,12 +101,5 @@ pub fn ids_rule(plan: &[u64], regions: usize) -> bool
     requires { (REGION * regions ≤ length plan.now) × (regions ≤ 8) }
     ensures { result ≡ ids_rule (plans_in regions plan.now) }
 {
-    let mut h: usize = 0;
-    while h < regions {
-        if id_among(plan, h + 1, regions, plan[REGION * h]) {
-            return false;
-        }
-        h += 1;
-    }
-    true
+    (0..regions).all(|h| !id_among(plan, h + 1, regions, plan[REGION * h]))
 }

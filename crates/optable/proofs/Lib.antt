@@ -1,6 +1,4 @@
--- What proofs over lent rows and lent counts use, here and in the crates above: the rows, then the lookups, then what a host holds.
-pub mod Opened
-pub mod Chosen
+-- What proofs over lent rows and lent counts use, here and in the crates above: the claims, then the lookups, then what a host holds.
 pub mod Claims
 pub mod Turning
 pub mod Looking

@@ -2,6 +2,8 @@
 -- rows are those counted, and no mark exceeds 64 bits.
 use Rattle.std.proofs.Common.{◌≡◌, ℕ, ◌+◌, ◌*◌, ◌^◌, ◌<◌, ◌≤◌, min, Bool, true, false, eqb, ◌⊎◌, List, [], ◌∷◌, length, take, sym, refl, ap, ◌∙◌, subst, inl, inr, le_trans, le_refl, mod-eq_of_lt, arith}
 use native.Mathlib.Nat.{min-le_right}
+use Rattle.std.specs.declared.option.Option.{Option}
+use Rattle.std.specs.declared.option.Option.TheVariants.{None, Some}
 use Rattle.layout.proofs.Tests.{true_or_false}
 use Rattle.layout.specs.Pick.{pick}
 use Rattle.regionmap.specs.Found.{wrap64}
@@ -59,9 +61,18 @@ module _ (x : Lookup) (c : Counts) (rows : List Row) (store free ready owners po
   abbrev same : Bool
   same = same_lengths (lengths_of lent) store
 
+  -- what is found in the rows, by the depth, where there is one
+  abbrev pub looked_by : Option ℕ → Option Looked
+  looked_by None = None
+  looked_by (Some depth) = Some (looked_in c.submissions (take depth rows))
+
+  -- the depth, by the test of the lengths
+  abbrev pub fit_by : Bool → Option ℕ
+  fit_by t = pick t (Some (settings_in store).depth) None
+
   -- the reply by the test of the lengths
   abbrev by_test : Bool → Reply
-  by_test t = answer_of t x c (looked_in c.submissions (take (pick t (settings_in store).depth 0) rows))
+  by_test t = answer_of x c (looked_by (fit_by t))
 
   as_looked : (y : Lookup) → Sound s → replies_as y c (looked_in c.submissions (take (settings_in store).depth rows)) ≡ looked_up s y
   unfolding replies_as looked_in looked_up mark_of state_in
@@ -80,14 +91,9 @@ module _ (x : Lookup) (c : Counts) (rows : List Row) (store free ready owners po
   abbrev same_with : ℕ → Bool
   same_with n = same_lengths (record { rows = n; store = length store; free = length free; ready = length ready; owners = length owners; pool = length pool }) store
 
-  -- what is found in the rows, by a depth, and the reply by whether the lengths are the opening's
-  pub looks_as : (n : ℕ) → length rows ≡ n → (fits : Bool) (depth : ℕ) (l : Looked) (r : Reply) → fits ≡ same_with n → depth ≡ pick (same_with n) (settings_in store).depth 0
-      → l ≡ looked_in c.submissions (take depth rows) → r ≡ answer_of fits x c l → LooksTo x c lent r
+  -- what is found in the rows, by the depth, and the reply by whether there is one
+  pub looks_as : (n : ℕ) → length rows ≡ n → (fit : Option ℕ) (l : Option Looked) (r : Reply) → fit ≡ fit_by (same_with n) → l ≡ looked_by fit → r ≡ answer_of x c l → LooksTo x c lent r
   unfolding lengths_of
-  looks_as n long fits depth l r fits_is depth_is found answered =
+  looks_as n long fit l r fits found answered =
       let here : same_with n ≡ same = ap same_with (sym long) in
-      let deep : depth ≡ pick same (settings_in store).depth 0 = depth_is ∙ ap (λ (t : Bool). pick t (settings_in store).depth 0) here in
-      subst (LooksTo x c lent)
-      (sym (answered ∙ ap (answer_of fits x c) (found ∙ ap (λ (d : ℕ). looked_in c.submissions (take d rows)) deep)
-      ∙ ap (λ (t : Bool). answer_of t x c (looked_in c.submissions (take (pick same (settings_in store).depth 0) rows))) (fits_is ∙ here)))
-      looks_to
+      subst (LooksTo x c lent) (sym (answered ∙ ap (answer_of x c) (found ∙ ap looked_by (fits ∙ ap fit_by here)))) looks_to

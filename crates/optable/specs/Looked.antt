@@ -1,5 +1,6 @@
 -- What a walk through the rows finds, and the replies to the lookups.
 use Rattle.std.specs.Prelude.{ℕ, ◌+◌, min, Bool, true, false, ◌||◌, List, ◌==◌}
+use Rattle.std.specs.declared.option.Option.{Option}
 use Rattle.layout.specs.Pick.{pick}
 use Rattle.regionmap.specs.Found.{wrap64}
 use Rattle.completion.specs.declared.Refusal.TheVariants as Refusal
@@ -28,6 +29,7 @@ unfoldable pub replies_as : Lookup → Counts → Looked → Reply
 replies_as Lookup.WritesLive c l = Reply.Writes l.writes
 replies_as Lookup.Mark c l = Reply.Mark (mark_wrapped c l.oldest)
 
--- the reply by whether the lengths are the opening's
-unfoldable pub answer_of : Bool → Lookup → Counts → Looked → Reply
-answer_of fits x c l = pick fits (replies_as x c l) (Reply.No Refusal.Unfit)
+-- the reply, of what is found where the lengths are the opening's
+unfoldable pub answer_of : Lookup → Counts → Option Looked → Reply
+answer_of x c (Option.Some l) = replies_as x c l
+answer_of x c Option.None = Reply.No Refusal.Unfit

@@ -48,9 +48,9 @@ pub fn accepted(c: Counts, accepts: bool) -> Counts
 {
     if accepts {
         Counts {
-            live: std::num::wrapping_add_u64(c.live, 1),
-            ready: c.ready,
-            submissions: std::num::wrapping_add_u64(c.submissions, 1),
+            live: c.live.wrapping_add(1),
+            submissions: c.submissions.wrapping_add(1),
+            ..c
         }
     } else {
         c
@@ -74,19 +74,17 @@ pub fn released(c: Counts, r: Frees) -> Counts
     match r {
         Frees::Nothing => c,
         Frees::Rejected => Counts {
-            live: layout::one_less(c.live),
-            ready: c.ready,
-            submissions: c.submissions,
+            live: c.live.saturating_sub(1),
+            ..c
         },
         Frees::Completed => Counts {
-            live: layout::one_less(c.live),
-            ready: std::num::wrapping_add_u64(c.ready, 1),
-            submissions: c.submissions,
+            live: c.live.saturating_sub(1),
+            ready: c.ready.wrapping_add(1),
+            ..c
         },
         Frees::Taken => Counts {
-            live: c.live,
-            ready: layout::one_less(c.ready),
-            submissions: c.submissions,
+            ready: c.ready.saturating_sub(1),
+            ..c
         },
     }
 }

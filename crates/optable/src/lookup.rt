@@ -29,8 +29,8 @@ fn is_page(kind: Kind) -> bool
     ensures { result ≡ is_page kind }
 {
     match kind {
-        Kind::Page { start: _, end: _ } => true,
-        Kind::Read { start: _, end: _ } => false,
+        Kind::Page { .. } => true,
+        Kind::Read { .. } => false,
     }
 }
 
@@ -48,16 +48,13 @@ fn is_live(awaits: Awaits) -> bool
 pub fn seen(l: Looked, row: Row) -> Looked
     ensures { result ≡ seen_by row l }
 {
-    let awaits = row.awaits;
-    let writes = if writes_in(awaits) { true } else { l.writes };
-    let seq = if is_live(awaits) {
-        layout::min(row.seq, l.oldest)
-    } else {
-        l.oldest
-    };
     Looked {
-        writes,
-        oldest: seq,
+        writes: writes_in(row.awaits) || l.writes,
+        oldest: if is_live(row.awaits) {
+            row.seq.min(l.oldest)
+        } else {
+            l.oldest
+        },
     }
 }
 
@@ -65,14 +62,13 @@ pub fn seen(l: Looked, row: Row) -> Looked
 pub fn look(rows: &[Row], depth: usize, next: u64) -> Looked
     ensures { result ≡ looked_in next (take depth rows.now) }
 {
-    let mut i = layout::lesser(depth, rows.len());
+    let n = depth.min(rows.len());
     let mut l = Looked {
         writes: false,
         oldest: next,
     };
-    while 0 < i {
-        i -= 1;
-        l = seen(l, rows[i]);
+    for row in rows[..n].iter().rev() {
+        l = seen(l, *row);
     }
     l
 }
@@ -82,9 +78,9 @@ pub fn mark(counts: Counts, oldest: u64) -> u64
     ensures { result ≡ mark_wrapped counts oldest }
 {
     if counts.live == 0 {
-        std::num::wrapping_add_u64(counts.submissions, counts.submissions)
+        counts.submissions.wrapping_add(counts.submissions)
     } else {
-        std::num::wrapping_add_u64(std::num::wrapping_add_u64(oldest, oldest), 1)
+        oldest.wrapping_add(oldest).wrapping_add(1)
     }
 }
 
@@ -98,13 +94,12 @@ fn reply(x: Lookup, counts: Counts, l: Looked) -> Reply
     }
 }
 
-// The reply, by whether the lengths are the opening's: "A later call with another length of row memory or pool gets 13 first."
-pub fn answer(x: Lookup, counts: Counts, fits: bool, l: Looked) -> Reply
-    ensures { result ≡ answer_of fits x counts l }
+// The reply, of what is found where the lengths are the opening's: "A later call with another length of row memory or pool gets 13 first."
+pub fn answer(x: Lookup, counts: Counts, found: Option<Looked>) -> Reply
+    ensures { result ≡ answer_of x counts found }
 {
-    if fits {
-        reply(x, counts, l)
-    } else {
-        Reply::No(Refusal::Unfit)
+    match found {
+        Some(l) => reply(x, counts, l),
+        None => Reply::No(Refusal::Unfit),
     }
 }

@@ -11,12 +11,8 @@ use model::Row;
 pub fn new(rows: &mut [Row], depth: usize)
     ensures { rows.new ≡ rows_opened (min depth (length rows.old)) rows.old }
 {
-    let n = layout::lesser(depth, rows.len());
-    let mut i: usize = 0;
-    while i < n {
-        rows[i] = crate::freed_row(0);
-        i += 1;
-    }
+    let n = depth.min(rows.len());
+    rows[..n].fill(crate::freed_row(0));
 }
 
 // The row at a place; one that awaits nothing where there is none.

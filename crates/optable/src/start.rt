@@ -9,17 +9,14 @@ use model::{Awaits, Counts, Kind, Request, Row, Split};
 pub fn full(c: Counts, depth: u64) -> bool
     ensures { result ≡ not (nat_lt (c.live + c.ready) depth) }
 {
-    if depth <= c.ready {
-        return true;
-    }
-    depth - c.ready <= c.live
+    depth.saturating_sub(c.ready) <= c.live
 }
 
 // "Queue tag = row + generation × 2^32" (Table::claim); wrapping where a row has more than 32 bits.
 pub fn queue_tag(row: u64, generation: u32) -> u64
     ensures { result ≡ wrap64 (queue_tag row generation) }
 {
-    std::num::wrapping_add_u64(row, generation as u64 * 0x1_0000_0000)
+    row.wrapping_add(generation as u64 * 0x1_0000_0000)
 }
 
 // Plain or durable; a read's mark is ignored.
@@ -27,8 +24,8 @@ fn durable_as(kind: Kind, durable: bool) -> bool
     ensures { result ≡ durable_as kind durable }
 {
     match kind {
-        Kind::Page { start: _, end: _ } => durable,
-        Kind::Read { start: _, end: _ } => false,
+        Kind::Page { .. } => durable,
+        Kind::Read { .. } => false,
     }
 }
 

@@ -44,13 +44,8 @@ pub fn place(call: Call, counts: Counts, free: &[u64]) -> u64
     match call {
         Call::Write(_) => crate::top(free, counts.live),
         Call::ReadPage(_) => crate::top(free, counts.live),
-        Call::Answer {
-            qtag,
-            answer: _,
-            back: _,
-            flushes: _,
-        } => row_of(qtag),
-        Call::Flushed { qtag, result: _ } => row_of(qtag),
+        Call::Answer { qtag, .. } => row_of(qtag),
+        Call::Flushed { qtag, .. } => row_of(qtag),
         _ => 0,
     }
 }

@@ -3,74 +3,46 @@
 // lines are read until the input ends.
 #![tactic(auto)]
 
-use opening::Opened;
+use memory::words::Words;
+use runner::Host;
 use runner::turn::Running;
 use std::io::{Stdin, Stdout};
 
-// Reads lines until the input ends, and answers each. A loop has to end: it counts its turns down, from a number that no run uses up.
-fn run(
-    stdin: Stdin,
-    stdout: Stdout,
-    r: Running,
-    store: &mut [u64],
-    free: &mut [u64],
-    ready: &mut [u64],
-    owners: &mut [u64],
-    pool: &mut [u8],
-) {
+// Reads lines until the input ends, and answers each. A loop has to end: it has as many turns as no run uses up.
+fn run(stdin: Stdin, stdout: Stdout, r: Running, words: &mut Words, pool: &mut [u8]) {
     let mut line = io::buffer();
     let mut chunk = io::buffer();
     let mut now = r;
-    let mut turns = u64::MAX;
-    while turns > 0 {
-        let from = now.from;
-        if from.ended {
+    for _ in 0..u64::MAX {
+        if now.from.ended {
             return;
         }
-        now = runner::turn::turn(
-            stdin, stdout, now, &mut line, &mut chunk, store, free, ready, owners, pool,
-        );
-        turns -= 1;
+        now = runner::turn::turn(stdin, stdout, now, &mut line, &mut chunk, words, pool);
     }
 }
 
 fn main(rt: HostRuntime) {
+    let mut rows = [optable::freed_row(0); 64];
     let mut store = [0u64; 118];
     let mut free = [0u64; 2];
     let mut ready = [0u64; 33];
     let mut owners = [0u64; 3];
     let mut pool = [0u8; 6144];
+    let mut words = Words {
+        store: &mut store,
+        free: &mut free,
+        ready: &mut ready,
+        owners: &mut owners,
+    };
     let plan = runner::turn::plan();
-    let rows = [optable::freed_row(0); 64];
-    let opened = submitter::host::open_in(
-        runner::figures(),
-        &plan,
-        rows,
-        &mut store,
-        &mut free,
-        &mut ready,
-        &mut owners,
-        &pool,
-    );
-    let held = opened.rows;
-    let table = opened.opened;
-    let Opened::Table(counts) = table else {
+    let opened = submitter::open(runner::figures(), &plan, &mut rows, &mut words, &pool);
+    let Ok(counts) = opened else {
         let _ = rt.stdout().write_all(b"no 13\n");
         return;
     };
     let r = Running {
-        rows: held,
-        counts,
+        host: Host { counts, rows },
         from: input::begin(),
     };
-    run(
-        rt.stdin(),
-        rt.stdout(),
-        r,
-        &mut store,
-        &mut free,
-        &mut ready,
-        &mut owners,
-        &mut pool,
-    );
+    run(rt.stdin(), rt.stdout(), r, &mut words, &mut pool);
 }

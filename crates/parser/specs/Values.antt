@@ -2,7 +2,8 @@
 use Rattle.std.specs.Prelude.{Bool, ◌&&◌, ◌||◌, List, ℕ, ◌^◌, ltb, eqb}
 use Rattle.layout.specs.Pick.{pick}
 use Rattle.regionmap.specs.Words.{position_of}
-use Rattle.domain.specs.declared.{Op.Op, OsError.OsError, FirstCause.FirstCause}
+use Rattle.domain.specs.declared.{Op.Op, FirstCause.FirstCause}
+use Rattle.std.specs.declared.option.Option.{Option}
 use Rattle.model.specs.declared.{Gate.Gate, Request.Request}
 use Rattle.fields.specs.Fields.{field, is_number, word_in, num}
 use Rattle.fields.specs.Codes.{codes}
@@ -21,8 +22,8 @@ dash = codes "-"
 unfoldable pub is_error : ℕ → List ℕ → Bool
 is_error k cs = is_raw k cs || word_in k dash cs
 
-unfoldable pub error_in : ℕ → List ℕ → OsError
-error_in k cs = pick (is_raw k cs) (OsError.Raw (raw_in k cs)) OsError.None
+unfoldable pub error_in : ℕ → List ℕ → Option ℕ
+error_in k cs = pick (is_raw k cs) (Option.Some (raw_in k cs)) Option.None
 
 -- "OP is `-`, `read`, `write` or `flush`."
 abbrev pub read_word : List ℕ

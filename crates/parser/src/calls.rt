@@ -10,6 +10,7 @@ use model::Call;
 use platform::{Answer, Flushed};
 
 // `a QTAG COUNT`
+#[tactic(auto, using(crate::proofs::Table::count_line))]
 fn counted(text: &[u8]) -> Said
     requires { (spaces text.now ≡ 2) × (word_in 0 (codes "a") text.now ≡ true) }
     ensures { result ≡ says_of (forms text.now) }
@@ -25,8 +26,7 @@ fn gated(text: &[u8]) -> Said
     requires { (spaces text.now ≡ 2) × (word_in 0 gate_word text.now ≡ true) }
     ensures { result ≡ says_of (forms text.now) }
 {
-    let numbers = fields::words::are_numbers(text, 2);
-    let fit = layout::both(numbers, fields::words::value_in(text, 2) <= 2);
+    let fit = fields::words::are_numbers(text, 2) && fields::words::value_in(text, 2) <= 2;
     let handle = fields::words::value_in(text, 1);
     let gate = crate::values::gate_in(text, 2);
     crate::forms::checked(fit, Said::Call(Call::SetGate { handle, gate }))
@@ -38,8 +38,7 @@ fn marked(text: &[u8]) -> Said
     requires other_words { (word_in 0 (codes "a") text.now ≡ false) × (word_in 0 gate_word text.now ≡ false) × (word_in 0 poison_word text.now ≡ false) }
     ensures { result ≡ says_of (forms text.now) }
 {
-    let numbers = fields::words::are_numbers(text, 2);
-    let fit = layout::both(numbers, fields::words::is_flag(text, 2));
+    let fit = fields::words::are_numbers(text, 2) && fields::words::is_flag(text, 2);
     let handle = fields::words::value_in(text, 1);
     let on = crate::values::flag_in(text, 2);
     if fields::words::is_word(text, 0, b"ro") {
@@ -52,6 +51,7 @@ fn marked(text: &[u8]) -> Said
 }
 
 // `poison OP ERR`
+#[tactic(auto, using(crate::proofs::Table::poison_line))]
 fn poisoned(text: &[u8]) -> Said
     requires { (spaces text.now ≡ 2) × (word_in 0 poison_word text.now ≡ true) }
     ensures { result ≡ says_of (forms text.now) }
@@ -85,11 +85,9 @@ fn flushed(text: &[u8]) -> Said
 {
     let qtag = fields::words::value_in(text, 1);
     let need = fields::words::value_in(text, 3);
-    let numbers = layout::both(
-        fields::words::are_numbers(text, 1),
-        fields::words::is_number(text, 3),
-    );
-    let fit = layout::both(fields::words::is_word(text, 2, b"n"), numbers);
+    let fit = fields::words::is_word(text, 2, b"n")
+        && fields::words::are_numbers(text, 1)
+        && fields::words::is_number(text, 3);
     crate::forms::checked(
         fit,
         Said::Call(Call::Flushed {
@@ -100,6 +98,7 @@ fn flushed(text: &[u8]) -> Said
 }
 
 // `sum BUFFER AT LENGTH`
+#[tactic(auto, using(crate::proofs::Table::sum_line))]
 fn summed(text: &[u8]) -> Said
     requires { (spaces text.now ≡ 3) × (word_in 0 sum_word text.now ≡ true) }
     ensures { result ≡ says_of (forms text.now) }
@@ -132,10 +131,7 @@ fn failed(text: &[u8]) -> Said
 {
     let qtag = fields::words::value_in(text, 1);
     let cause = crate::values::cause_in(text, 3, 4);
-    let fit = layout::both(
-        fields::words::are_numbers(text, 1),
-        crate::values::is_cause(text, 3, 4),
-    );
+    let fit = fields::words::are_numbers(text, 1) && crate::values::is_cause(text, 3, 4);
     if fields::words::is_word(text, 2, b"u") {
         let result = Flushed::Unknown(cause);
         return crate::forms::checked(fit, Said::Call(Call::Flushed { qtag, result }));
@@ -148,6 +144,7 @@ fn failed(text: &[u8]) -> Said
 }
 
 // `fill BUFFER AT LENGTH SEED`
+#[tactic(auto, using(crate::proofs::Table::fill_line))]
 fn filled(text: &[u8]) -> Said
     requires { (spaces text.now ≡ 4) × (word_in 0 fill_word text.now ≡ true) }
     ensures { result ≡ says_of (forms text.now) }
@@ -197,10 +194,7 @@ pub fn of_five(text: &[u8]) -> Said
         return crate::forms::owned(text, false);
     }
     if fields::words::is_word(text, 0, b"A") {
-        let fit = layout::both(
-            fields::words::is_word(text, 4, b"c"),
-            fields::words::is_number(text, 5),
-        );
+        let fit = fields::words::is_word(text, 4, b"c") && fields::words::is_number(text, 5);
         return crate::forms::answered(text, fit, Answer::Count(fields::words::value_in(text, 5)));
     }
     Said::Bad
@@ -216,10 +210,7 @@ pub fn of_six(text: &[u8]) -> Said
     }
     let raw = crate::values::raw_in(text, 5);
     let media = crate::values::flag_in(text, 6);
-    let fit = layout::both(
-        crate::values::is_raw(text, 5),
-        fields::words::is_flag(text, 6),
-    );
+    let fit = crate::values::is_raw(text, 5) && fields::words::is_flag(text, 6);
     if fields::words::is_word(text, 4, b"e") {
         return crate::forms::answered(text, fit, Answer::Error { raw, media });
     }
@@ -234,8 +225,7 @@ pub fn of_nine(text: &[u8]) -> Said
     requires { spaces text.now ≡ 9 }
     ensures { result ≡ says_of (forms text.now) }
 {
-    let numbers = fields::words::are_numbers(text, 9);
-    let fit = layout::both(numbers, fields::words::is_flag(text, 8));
+    let fit = fields::words::are_numbers(text, 9) && fields::words::is_flag(text, 8);
     let request = crate::values::request_in(text);
     if fields::words::is_word(text, 0, b"W") {
         return crate::forms::checked(fit, Said::Call(Call::Write(request)));

@@ -51,6 +51,7 @@ pub enum Said {
 }
 
 // What a line says where its fields are as they must be.
+#[tactic(auto, unfolding(layout::specs::Pick::pick))]
 pub fn checked(fit: bool, said: Said) -> Said
     ensures { result ≡ pick fit said Said.Bad }
 {
@@ -81,16 +82,16 @@ pub fn of_none(text: &[u8]) -> Said
 }
 
 // `A QTAG FLUSHES BACK`, behind which an answer stands that fits or does not.
+#[tactic(auto, unfolding(crate::specs::Said::is_answered, crate::specs::Said::answer_in))]
 pub fn answered(text: &[u8], fit: bool, answer: Answer) -> Said
     ensures { result ≡ pick (fit && is_answered text.now) (answer_in answer text.now) Said.Bad }
 {
     let qtag = fields::words::value_in(text, 1);
     let flushes = fields::words::value_in(text, 2);
     let back = crate::values::flag_in(text, 3);
-    let numbers = fields::words::are_numbers(text, 3);
-    let front = layout::both(numbers, fields::words::is_flag(text, 3));
+    let front = fields::words::are_numbers(text, 3) && fields::words::is_flag(text, 3);
     checked(
-        layout::both(fit, front),
+        fit && front,
         Said::Call(Call::Answer {
             qtag,
             answer,
@@ -101,11 +102,11 @@ pub fn answered(text: &[u8], fit: bool, answer: Answer) -> Said
 }
 
 // `w|r BUFFER POSITION LENGTH DURABLE TAG`
+#[tactic(auto, unfolding(crate::specs::Said::own_in))]
 pub fn owned(text: &[u8], write: bool) -> Said
     ensures { result ≡ pick (are_numbers 5 text.now && is_flag 4 text.now) (own_in write text.now) Said.Bad }
 {
-    let numbers = fields::words::are_numbers(text, 5);
-    let fit = layout::both(numbers, fields::words::is_flag(text, 4));
+    let fit = fields::words::are_numbers(text, 5) && fields::words::is_flag(text, 4);
     let buffer = fields::words::value_in(text, 1);
     let position = fields::words::value_in(text, 2);
     let length = fields::words::value_in(text, 3);

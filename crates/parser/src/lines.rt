@@ -1,6 +1,6 @@
 // The calls of a trace, read: what each line says, of its bytes without the line's end, and what optrun takes of it.
 // A line may be of any length: fields::reader keeps its first 4,096 bytes, and whether there are more.
-ghost use Rattle.std.specs.Prelude.{◌≡◌, List, ℕ, ◌≤◌, length, take};
+ghost use Rattle.std.specs.Prelude.{◌≡◌, List, ℕ};
 ghost use Rattle.fields.specs.Trace.{Kept};
 ghost use Rattle.parser.specs.Said.{said_in, said_read, take_only, optrun_line};
 
@@ -12,7 +12,7 @@ use model::Call;
 pub fn said_in(text: &[u8]) -> Said
     ensures { result ≡ said_in text.now }
 {
-    if fields::first_byte(text) == 35 {
+    if fields::first_byte(text) == b'#' {
         return Said::Comment;
     }
     match fields::count_spaces(text) {
@@ -28,6 +28,7 @@ pub fn said_in(text: &[u8]) -> Said
 }
 
 // Of the calls only `t`.
+#[tactic(auto, unfolding(crate::specs::Said::take_only))]
 fn take_only(call: Call) -> Said
     ensures { result ≡ take_only call }
 {
@@ -38,31 +39,17 @@ fn take_only(call: Call) -> Said
 }
 
 // What is taken of a line by optrun, which "reads `w`, `r`, `a` and `t` of these".
+#[tactic(auto, unfolding(crate::specs::Said::optrun_line))]
 pub fn optrun_line(said: Said) -> Said
     ensures { result ≡ optrun_line said }
 {
     match said {
         Said::Comment => said,
-        Said::Own {
-            write: _,
-            buffer: _,
-            position: _,
-            length: _,
-            durable: _,
-            tag: _,
-        } => said,
-        Said::Count { qtag: _, count: _ } => said,
+        Said::Own { .. } => said,
+        Said::Count { .. } => said,
         Said::Call(call) => take_only(call),
         _ => Said::Bad,
     }
-}
-
-// What the first bytes of a line say.
-fn said_front(line: &[u8], kept: usize) -> Said
-    requires { kept ≤ length line.now }
-    ensures { result ≡ said_in (take kept line.now) }
-{
-    said_in(&line[..kept])
 }
 
 // What the line says, once all its bytes are there.
@@ -72,6 +59,6 @@ pub fn finish(r: Reader, line: &[u8; 4096]) -> Said
     match fields::reader::front_of(r, line) {
         Front::Comment => Said::Comment,
         Front::Bad => Said::Bad,
-        Front::Text(kept) => said_front(line, kept),
+        Front::Text(kept) => said_in(&line[..kept]),
     }
 }

@@ -24,6 +24,7 @@ pub enum Asks {
 }
 
 // A request in handle 0.
+#[tactic(auto, unfolding(crate::specs::Asks::request_of))]
 fn request(
     named: Named,
     buffer: u64,
@@ -48,6 +49,7 @@ fn request(
 }
 
 // A request submitted as a write or as a read.
+#[tactic(auto, unfolding(crate::specs::Asks::submission_of, layout::specs::Pick::pick))]
 fn submission(write: bool, q: Request) -> Call
     ensures { result ≡ submission_of write q }
 {

@@ -4,35 +4,34 @@ ghost use Rattle.std.specs.Prelude.{◌≡◌};
 ghost use Rattle.parser.specs.Values.{is_raw, raw_in, gate_in, flag_in, request_in, is_op, op_in, is_error, error_in, is_cause, cause_in};
 
 use domain::{FirstCause, Op, OsError};
-use layout::either;
 use model::{Gate, Request};
 use regionmap::Position;
 
 // Whether the k-th field is a number below 2^32.
+#[tactic(auto, using(crate::proofs::Words::is_raw_by))]
 pub fn is_raw(text: &[u8], k: usize) -> bool
     ensures { result ≡ is_raw k text.now }
 {
-    let field = fields::number_in(text, k);
-    layout::both(field.is, field.value < 4294967296)
+    matches!(fields::number_in(text, k), Some(0..=0xffff_ffff))
 }
 
 // Which, 0 where it is none.
+#[tactic(auto, unfolding(crate::specs::Values::raw_in, layout::specs::Pick::pick))]
 pub fn raw_in(text: &[u8], k: usize) -> u32
     ensures { result ≡ raw_in k text.now }
 {
     if !is_raw(text, k) {
         return 0;
     }
-    let raw = fields::words::value_in(text, k);
-    raw as u32
+    fields::words::value_in(text, k) as u32
 }
 
 // The gate in the k-th field.
+#[tactic(auto, unfolding(crate::specs::Values::gate_in, layout::specs::Pick::pick))]
 pub fn gate_in(text: &[u8], k: usize) -> Gate
     ensures { result ≡ gate_in k text.now }
 {
-    let n = fields::words::value_in(text, k);
-    match n {
+    match fields::words::value_in(text, k) {
         0 => Gate::Open,
         1 => Gate::Recycled,
         _ => Gate::Released,
@@ -40,6 +39,7 @@ pub fn gate_in(text: &[u8], k: usize) -> Gate
 }
 
 // The flag in the k-th field.
+#[tactic(auto, unfolding(crate::specs::Values::flag_in))]
 pub fn flag_in(text: &[u8], k: usize) -> bool
     ensures { result ≡ flag_in k text.now }
 {
@@ -47,43 +47,36 @@ pub fn flag_in(text: &[u8], k: usize) -> bool
 }
 
 // The request of `W` and `R`.
+#[tactic(auto, unfolding(crate::specs::Values::request_in))]
 pub fn request_in(text: &[u8]) -> Request
     ensures { result ≡ request_in text.now }
 {
-    let handle = fields::words::value_in(text, 1);
-    let volume = fields::words::value_in(text, 2);
-    let region = fields::words::value_in(text, 3);
-    let generation = fields::words::value_in(text, 4);
-    let position = fields::words::value_in(text, 5);
-    let buffer = fields::words::value_in(text, 6);
-    let length = fields::words::value_in(text, 7);
-    let durable = flag_in(text, 8);
-    let tag = fields::words::value_in(text, 9);
     Request {
-        handle,
-        volume,
-        region,
-        generation,
-        offset: Position(position),
-        buffer,
-        length,
-        durable,
-        tag,
+        handle: fields::words::value_in(text, 1),
+        volume: fields::words::value_in(text, 2),
+        region: fields::words::value_in(text, 3),
+        generation: fields::words::value_in(text, 4),
+        offset: Position(fields::words::value_in(text, 5)),
+        buffer: fields::words::value_in(text, 6),
+        length: fields::words::value_in(text, 7),
+        durable: flag_in(text, 8),
+        tag: fields::words::value_in(text, 9),
     }
 }
 
 // Whether the k-th field is an operation or `-`.
+#[tactic(auto, unfolding(crate::specs::Values::is_op))]
 pub fn is_op(text: &[u8], k: usize) -> bool
     ensures { result ≡ is_op k text.now }
 {
-    let none = fields::words::is_word(text, k, b"-");
-    let read = fields::words::is_word(text, k, b"read");
-    let write = fields::words::is_word(text, k, b"write");
-    let flush = fields::words::is_word(text, k, b"flush");
-    either(either(either(none, read), write), flush)
+    fields::words::is_word(text, k, b"-")
+        || fields::words::is_word(text, k, b"read")
+        || fields::words::is_word(text, k, b"write")
+        || fields::words::is_word(text, k, b"flush")
 }
 
 // The operation in the k-th field.
+#[tactic(auto, unfolding(crate::specs::Values::op_in, layout::specs::Pick::pick))]
 pub fn op_in(text: &[u8], k: usize) -> Op
     ensures { result ≡ op_in k text.now }
 {
@@ -100,36 +93,39 @@ pub fn op_in(text: &[u8], k: usize) -> Op
 }
 
 // Whether the k-th field is an OS error or `-`.
+#[tactic(auto, unfolding(crate::specs::Values::is_error))]
 pub fn is_error(text: &[u8], k: usize) -> bool
     ensures { result ≡ is_error k text.now }
 {
-    let raw = is_raw(text, k);
-    either(raw, fields::words::is_word(text, k, b"-"))
+    is_raw(text, k) || fields::words::is_word(text, k, b"-")
 }
 
 // The OS error in the k-th field.
-pub fn error_in(text: &[u8], k: usize) -> OsError
+#[tactic(auto, unfolding(crate::specs::Values::error_in, layout::specs::Pick::pick))]
+pub fn error_in(text: &[u8], k: usize) -> Option<OsError>
     ensures { result ≡ error_in k text.now }
 {
     if is_raw(text, k) {
-        return OsError::Raw(raw_in(text, k));
+        return Some(raw_in(text, k));
     }
-    OsError::None
+    None
 }
 
 // Whether two fields are `OP ERR`.
+#[tactic(auto, unfolding(crate::specs::Values::is_cause))]
 pub fn is_cause(text: &[u8], op: usize, err: usize) -> bool
     ensures { result ≡ is_cause op err text.now }
 {
-    let operation = is_op(text, op);
-    layout::both(operation, is_error(text, err))
+    is_op(text, op) && is_error(text, err)
 }
 
 // The cause in two fields.
+#[tactic(auto, unfolding(crate::specs::Values::cause_in))]
 pub fn cause_in(text: &[u8], op: usize, err: usize) -> FirstCause
     ensures { result ≡ cause_in op err text.now }
 {
-    let operation = op_in(text, op);
-    let raw = error_in(text, err);
-    FirstCause { op: operation, raw }
+    FirstCause {
+        op: op_in(text, op),
+        raw: error_in(text, err),
+    }
 }

@@ -2,7 +2,7 @@
 use mathlib.Core.Path.{◌≡◌, refl, sym, ap, ◌∙◌}
 use mathlib.Core.Logic.{⊎_elim}
 use mathlib.Core.List.{List, [], ◌∷◌, map}
-use Prim.Native.Nat.{ℕ, zero, suc, ◌+◌, ◌*◌, ◌-◌, ◌≤◌, min}
+use Prim.Native.Nat.{ℕ, zero, suc, ◌-◌, ◌≤◌, min}
 use native.Mathlib.Omega.{arith}
 use lib.ListN.{length, take, drop, length-take}
 use lib.Seq.{take_all}
@@ -53,16 +53,6 @@ back_within n k l e =
 part : (free : List ℕ) (depth live end top : ℕ) → end ≡ min depth (length free) → top ≡ min live end → take (end - top) (drop top free) ≡ drop live (take depth free)
 part free depth live end top e t =
     drop_front top end free ∙ ap (drop top) (front_within depth end free e) ∙ back_within live top (take depth free) (t ∙ ap (min live) (e ∙ sym (length-take depth free)))
-
--- 64 rows fit
-pub fits : (a b x y n : ℕ) → a ≤ 64 → b ≤ 64 → n ≡ 4096 → 10 + 21 * (min a x + min b y) ≤ n
-fits a b x y n p q r = omega (arith, p, q, r)
-
-pub most_64 : (m depth : ℕ) → m ≡ min depth 64 → m ≤ 64
-most_64 m depth e = omega (arith, e)
-
-pub end_64 : (m n end top : ℕ) → m ≤ 64 → end ≡ min m n → end - top ≤ 64
-end_64 m n end top p e = omega (arith, p, e)
 
 pub listed : (depth live : ℕ) (rows : List Row) (free all : List ℕ) (most end top : ℕ) → depth ≤ 64 → all ≡ map generation_of rows → most ≡ min depth 64 → end ≡ min most (length free) → top ≡ min live end
     → rows_text (take most all) (take (end - top) (drop top free)) ≡ listed_text depth live rows free

@@ -1,7 +1,8 @@
 -- The parts of which the lines of replies are made: words, numbers, ranges and causes.
 use Rattle.std.specs.Prelude.{Bool, List, [], ◌∷◌, ◌++◌, ℕ}
 use Rattle.layout.specs.Pick.{pick}
-use Rattle.domain.specs.declared.{Op.Op, OsError.OsError, FirstCause.FirstCause}
+use Rattle.domain.specs.declared.{Op.Op, FirstCause.FirstCause}
+use Rattle.std.specs.declared.option.Option.{Option}
 use Rattle.completion.specs.declared.{Range.Range, WriteTicket.WriteTicket}
 use Rattle.fields.specs.Codes.{codes}
 use Rattle.printer.specs.Spaced.{spaced}
@@ -27,9 +28,9 @@ op_text Op.Write = codes " write"
 op_text Op.Flush = codes " flush"
 
 -- "ERR is a number below 2^32, or `-` for none.", behind a space
-unfoldable pub error_text : OsError → List ℕ
-error_text OsError.None = codes " -"
-error_text (OsError.Raw n) = spaced n
+unfoldable pub error_text : Option ℕ → List ℕ
+error_text Option.None = codes " -"
+error_text (Option.Some n) = spaced n
 
 -- `OP ERR`
 unfoldable pub cause_text : FirstCause → List ℕ
@@ -97,9 +98,9 @@ abbrev pub mark_word : List ℕ
 mark_word = codes "mark"
 
 -- `refused io REGION START END ERR` or `refused full REGION START END`
-unfoldable pub refused_text : Range → OsError → List ℕ
-refused_text r OsError.None = refused_word ++ range_text full_word r
-refused_text r (OsError.Raw n) = refused_word ++ range_text io_word r ++ spaced n
+unfoldable pub refused_text : Range → Option ℕ → List ℕ
+refused_text r Option.None = refused_word ++ range_text full_word r
+refused_text r (Option.Some n) = refused_word ++ range_text io_word r ++ spaced n
 
 -- `flush QTAG NEED`
 unfoldable pub flush_text : ℕ → ℕ → List ℕ

@@ -1,6 +1,8 @@
 -- What replay prints of a ticket, a receipt and a buffer: TRACE.md's section "Replies".
 use Rattle.std.specs.Prelude.{List, [], ◌∷◌, ℕ}
-use Rattle.completion.specs.declared.{WriteTicket.WriteTicket, DurableReceipt.DurableReceipt, Buffer.Buffer}
+use Rattle.completion.specs.declared.{WriteTicket.WriteTicket, DurableReceipt.DurableReceipt}
+use Rattle.completion.specs.Buffers.{Buffer}
+use Rattle.std.specs.declared.option.Option.TheVariants.{Some as Back, None as Lost}
 use Rattle.fields.specs.Codes.{codes}
 use Rattle.printer.specs.Parts.{fields_of, bit, receipt_word}
 
@@ -16,8 +18,8 @@ lost_word = codes " lost"
 
 -- "then ` buffer B LENGTH` or ` lost`"
 unfoldable pub buffer_text : Buffer → List ℕ
-buffer_text (Buffer.Back b len) = fields_of buffer_word (b ∷ len ∷ [])
-buffer_text Buffer.Lost = lost_word
+buffer_text (Back h) = fields_of buffer_word (h.buffer ∷ h.len ∷ [])
+buffer_text Lost = lost_word
 
 -- "TICKET is `ticket VOLUME REGION GENERATION START END NEED EPOCH`"
 unfoldable pub ticket_text : WriteTicket → List ℕ

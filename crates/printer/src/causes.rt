@@ -1,67 +1,70 @@
-// Operations, OS errors and causes, put behind the first `at` bytes of a buffer, and a refused first piece.
-ghost use Rattle.std.specs.Prelude.{◌≡◌, ◌++◌, ◌+◌, ◌≤◌, length, take};
+// Operations, OS errors and causes, put at a line's end, and a refused first piece.
+ghost use Rattle.std.specs.Prelude.{◌≡◌, ◌++◌, ◌+◌, ◌≤◌, length};
 ghost use Rattle.printer.specs.Parts.{op_text, error_text, cause_text, poisoned_word, refused_text};
 
+use crate::bytes::Line;
 use completion::Range;
 use domain::{FirstCause, Op, OsError};
 
 // Puts an operation.
-pub fn put_op(op: Op, out: &mut [u8], at: usize) -> usize
-    requires { at + 6 ≤ length out.old }
-    ensures { (result ≤ at + 6) ×
-        ((length out.new ≡ length out.old) × (take result out.new ≡ take at out.old ++ op_text op)) }
+#[tactic(auto, unfolding(crate::specs::Parts::op_text))]
+pub fn put_op<const N: usize>(line: &mut Line<N>, op: Op)
+    requires { length line.old + 6 ≤ N }
+    ensures text { line.new ≡ line.old ++ op_text op }
+    ensures room { length line.new ≤ length line.old + 6 }
 {
     match op {
-        Op::None => crate::bytes::put(b" -", out, at),
-        Op::Read => crate::bytes::put(b" read", out, at),
-        Op::Write => crate::bytes::put(b" write", out, at),
-        Op::Flush => crate::bytes::put(b" flush", out, at),
+        Op::None => line.put(b" -"),
+        Op::Read => line.put(b" read"),
+        Op::Write => line.put(b" write"),
+        Op::Flush => line.put(b" flush"),
     }
 }
 
 // Puts an OS error.
-pub fn put_error(raw: OsError, out: &mut [u8], at: usize) -> usize
-    requires { at + 21 ≤ length out.old }
-    ensures { (result ≤ at + 21) ×
-        ((length out.new ≡ length out.old) × (take result out.new ≡ take at out.old ++ error_text raw)) }
+#[tactic(auto, unfolding(crate::specs::Parts::error_text))]
+pub fn put_error<const N: usize>(line: &mut Line<N>, raw: Option<OsError>)
+    requires { length line.old + 21 ≤ N }
+    ensures text { line.new ≡ line.old ++ error_text raw }
+    ensures room { length line.new ≤ length line.old + 21 }
 {
     match raw {
-        OsError::None => crate::bytes::put(b" -", out, at),
-        OsError::Raw(n) => crate::bytes::put_spaced(n as u64, out, at),
+        None => line.put(b" -"),
+        Some(n) => line.put_spaced(n as u64),
     }
 }
 
 // Puts a cause.
-pub fn put_cause(cause: FirstCause, out: &mut [u8], at: usize) -> usize
-    requires { at + 27 ≤ length out.old }
-    ensures { (result ≤ at + 27) ×
-        ((length out.new ≡ length out.old) × (take result out.new ≡ take at out.old ++ cause_text cause)) }
+#[tactic(auto, unfolding(crate::specs::Parts::cause_text))]
+pub fn put_cause<const N: usize>(line: &mut Line<N>, cause: FirstCause)
+    requires { length line.old + 27 ≤ N }
+    ensures text { line.new ≡ line.old ++ cause_text cause }
+    ensures room { length line.new ≤ length line.old + 27 }
 {
-    let op = cause.op;
-    let raw = cause.raw;
-    let named = put_op(op, out, at);
-    put_error(raw, out, named)
+    put_op(line, cause.op);
+    put_error(line, cause.raw)
 }
 
-// Puts a first piece that was refused, with an OS error or without one, from the front.
-pub fn put_refused(range: Range, raw: OsError, out: &mut [u8]) -> usize
-    requires { 96 ≤ length out.old }
-    ensures { (result ≤ 95) × ((length out.new ≡ length out.old) × (take result out.new ≡ refused_text range raw)) }
+// Puts a first piece that was refused, with an OS error or without one.
+#[tactic(auto, unfolding(crate::specs::Parts::refused_text))]
+pub fn put_refused<const N: usize>(line: &mut Line<N>, range: Range, raw: Option<OsError>)
+    requires { length line.old + 96 ≤ N }
+    ensures text { line.new ≡ line.old ++ refused_text range raw }
+    ensures room { length line.new ≤ length line.old + 95 }
 {
-    let word = crate::bytes::put(b"refused", out, 0);
+    line.put(b"refused");
     match raw {
-        OsError::None => crate::parts::put_range(b" full", range, out, word),
-        OsError::Raw(n) => crate::parts::put_raw(b" io", range, n, out, word),
+        None => crate::parts::put_range(line, b" full", range),
+        Some(n) => crate::parts::put_raw(line, b" io", range, n),
     }
 }
 
 // Puts ` poisoned OP ERR`.
-pub fn put_poisoned(cause: FirstCause, out: &mut [u8], at: usize) -> usize
-    requires { at + 87 ≤ length out.old }
-    ensures { (result ≤ at + 87) ×
-        ((length out.new ≡ length out.old) ×
-        (take result out.new ≡ take at out.old ++ (poisoned_word ++ cause_text cause))) }
+pub fn put_poisoned<const N: usize>(line: &mut Line<N>, cause: FirstCause)
+    requires { length line.old + 87 ≤ N }
+    ensures text { line.new ≡ line.old ++ (poisoned_word ++ cause_text cause) }
+    ensures room { length line.new ≤ length line.old + 87 }
 {
-    let word = crate::bytes::put(b" poisoned", out, at);
-    put_cause(cause, out, word)
+    line.put(b" poisoned");
+    put_cause(line, cause)
 }

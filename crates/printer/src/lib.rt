@@ -1,5 +1,5 @@
-// The lines that a trace's programs print (TRACE.md, "Replies"), each put into a buffer that holds any of them.
-// bytes: bytes and numbers put behind what stands in a buffer.
+// The lines that a trace's programs print (TRACE.md, "Replies").
+// bytes: a line as it is written, and bytes put into a buffer.
 // parts: a word and numbers behind it, ranges, needs, and the lines of a word alone.
 // causes: operations, OS errors, causes, and a refused first piece.
 // tickets: tickets, receipts and buffers.
@@ -9,7 +9,7 @@
 // replies: what replay prints of a reply.
 // rows: what replay prints of the rows.
 // short: what optrun prints of a reply.
-// output: what replay prints of a line, from the front of its buffer.
+// output: what replay prints of a line, at the front of its buffer.
 #![tactic(auto)]
 
 pub mod bytes;

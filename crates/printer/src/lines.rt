@@ -1,43 +1,50 @@
-// The lines that both programs print, written: each from the front of a buffer that holds any of them.
-ghost use Rattle.std.specs.Prelude.{◌≡◌, ◌≤◌, length, take};
+// The lines that both programs print, written.
+ghost use Rattle.std.specs.Prelude.{◌≡◌, ◌++◌, ◌+◌, ◌≤◌, length, take};
 ghost use Rattle.completion.specs.Numbers.{number};
 ghost use Rattle.printer.specs.Texts.{no_word, piece_text, numbered, bad_text};
 
+use crate::bytes::Line;
 use completion::Refusal;
 
 // `piece QTAG OFFSET COUNT`
-pub fn piece_text(qtag: u64, offset: u64, count: u64, out: &mut [u8]) -> usize
-    requires { 128 ≤ length out.old }
-    ensures { (result ≤ 128) × (take result out.new ≡ piece_text qtag offset count) }
+#[tactic(auto, unfolding(crate::specs::Texts::piece_word, crate::specs::Texts::piece_text))]
+pub fn piece_text<const N: usize>(line: &mut Line<N>, qtag: u64, offset: u64, count: u64)
+    requires { length line.old + 128 ≤ N }
+    ensures { line.new ≡ line.old ++ piece_text qtag offset count }
 {
-    let word = crate::bytes::put(b"piece", out, 0);
-    let tagged = crate::bytes::put_spaced(qtag, out, word);
-    let placed = crate::bytes::put_spaced(offset, out, tagged);
-    let counted = crate::bytes::put_spaced(count, out, placed);
-    crate::bytes::put(b"\n", out, counted)
+    line.put(b"piece");
+    line.put_spaced(qtag);
+    line.put_spaced(offset);
+    line.put_spaced(count);
+    line.put(b"\n")
 }
 
 // A word of at most 6 letters, a number and the line's end.
-pub fn numbered_text(word: &[u8], n: u64, out: &mut [u8]) -> usize
-    requires { (length word.now ≤ 6) × (128 ≤ length out.old) }
-    ensures { (result ≤ 128) × (take result out.new ≡ numbered word.now n) }
+#[tactic(auto, unfolding(crate::specs::Texts::numbered))]
+pub fn numbered_text<const N: usize>(line: &mut Line<N>, word: &[u8], n: u64)
+    requires { (length word.now ≤ 6) × (length line.old + 128 ≤ N) }
+    ensures { line.new ≡ line.old ++ numbered word.now n }
 {
-    let spelled = crate::bytes::put(word, out, 0);
-    let ended = crate::bytes::put_spaced(n, out, spelled);
-    crate::bytes::put(b"\n", out, ended)
+    line.put(word);
+    line.put_spaced(n);
+    line.put(b"\n")
 }
 
 // `bad` and the line's number
+#[tactic(auto, unfolding(crate::specs::Texts::bad_word, crate::specs::Texts::bad_text))]
 pub fn bad_text(n: u64, out: &mut [u8; 128]) -> usize
     ensures { (result ≤ 128) × (take result out.new ≡ bad_text n) }
 {
-    numbered_text(b"bad", n, out)
+    let mut line = Line::<128>::new();
+    numbered_text(&mut line, b"bad", n);
+    crate::bytes::put(line.text(), out, 0)
 }
 
 // `no` and the refusal's number
-pub fn no_text(refusal: Refusal, out: &mut [u8]) -> usize
-    requires { 128 ≤ length out.old }
-    ensures { (result ≤ 128) × (take result out.new ≡ numbered no_word (number refusal)) }
+#[tactic(auto, unfolding(crate::specs::Texts::no_word))]
+pub fn no_text<const N: usize>(line: &mut Line<N>, refusal: Refusal)
+    requires { length line.old + 128 ≤ N }
+    ensures { line.new ≡ line.old ++ numbered no_word (number refusal) }
 {
-    numbered_text(b"no", completion::refusals::number_of(refusal), out)
+    numbered_text(line, b"no", completion::refusals::number_of(refusal))
 }

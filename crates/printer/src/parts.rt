@@ -1,92 +1,90 @@
-// The parts of which the lines of replies are made, each put behind the first `at` bytes of a buffer.
-ghost use Rattle.std.specs.Prelude.{◌≡◌, [], ◌∷◌, ◌++◌, ◌+◌, ◌*◌, ◌≤◌, length, take};
+// The parts of which the lines of replies are made, each put at a line's end.
+ghost use Rattle.std.specs.Prelude.{◌≡◌, [], ◌∷◌, ◌++◌, ◌+◌, ◌*◌, ◌≤◌, length};
 ghost use Rattle.printer.specs.Spaced.{spaced};
 ghost use Rattle.printer.specs.Parts.{fields_of, bit, range_text, need_text, read_word, flush_text};
 
+use crate::bytes::Line;
 use completion::{Range, WriteTicket};
 
 // Puts a word and numbers, each behind a space.
-pub fn put_fields(word: &[u8], numbers: &[u64], out: &mut [u8], at: usize) -> usize
-    requires { at + length word.now + 21 * length numbers.now ≤ length out.old }
-    ensures { (result ≤ at + length word.now + 21 * length numbers.now) ×
-        ((length out.new ≡ length out.old) ×
-        (take result out.new ≡ take at out.old ++ fields_of word.now numbers.now)) }
+#[tactic(auto, unfolding(crate::specs::Parts::fields_of))]
+pub fn put_fields<const N: usize>(line: &mut Line<N>, word: &[u8], numbers: &[u64])
+    requires { length line.old + length word.now + 21 * length numbers.now ≤ N }
+    ensures text { line.new ≡ line.old ++ fields_of word.now numbers.now }
+    ensures room { length line.new ≤ length line.old + length word.now + 21 * length numbers.now }
 {
-    let mut end = crate::bytes::put(word, out, at);
-    let mut i: usize = 0;
-    while i < numbers.len() {
-        end = crate::bytes::put_spaced(numbers[i], out, end);
-        i += 1;
+    line.put(word);
+    for n in numbers {
+        line.put_spaced(*n);
     }
-    end
 }
 
 // A flag as a number.
+#[tactic(auto, unfolding(crate::specs::Parts::bit, layout::specs::Pick::pick))]
 pub fn bit_of(b: bool) -> u64
     ensures { result ≡ bit b }
 {
-    if b { 1 } else { 0 }
+    u64::from(b)
 }
 
 // Puts a word, a region and a range.
-pub fn put_range(word: &[u8], range: Range, out: &mut [u8], at: usize) -> usize
-    requires { at + length word.now + 63 ≤ length out.old }
-    ensures { (result ≤ at + length word.now + 63) ×
-        ((length out.new ≡ length out.old) ×
-        (take result out.new ≡ take at out.old ++ range_text word.now range)) }
+#[tactic(auto, unfolding(crate::specs::Parts::range_text))]
+pub fn put_range<const N: usize>(line: &mut Line<N>, word: &[u8], range: Range)
+    requires { length line.old + length word.now + 63 ≤ N }
+    ensures text { line.new ≡ line.old ++ range_text word.now range }
+    ensures room { length line.new ≤ length line.old + length word.now + 63 }
 {
     let numbers = [range.region, range.start.0, range.end.0];
-    put_fields(word, &numbers, out, at)
+    put_fields(line, word, &numbers)
 }
 
 // Puts a word, a ticket's range and a need.
-pub fn put_need(word: &[u8], ticket: WriteTicket, need: u64, out: &mut [u8], at: usize) -> usize
-    requires { at + length word.now + 63 ≤ length out.old }
-    ensures { (result ≤ at + length word.now + 63) ×
-        ((length out.new ≡ length out.old) ×
-        (take result out.new ≡ take at out.old ++ need_text word.now ticket need)) }
+#[tactic(auto, unfolding(crate::specs::Parts::need_text))]
+pub fn put_need<const N: usize>(line: &mut Line<N>, word: &[u8], ticket: WriteTicket, need: u64)
+    requires { length line.old + length word.now + 63 ≤ N }
+    ensures text { line.new ≡ line.old ++ need_text word.now ticket need }
+    ensures room { length line.new ≤ length line.old + length word.now + 63 }
 {
     let numbers = [ticket.start.0, ticket.end.0, need];
-    put_fields(word, &numbers, out, at)
+    put_fields(line, word, &numbers)
 }
 
 // Puts a word, a region, a range and an OS error.
-pub fn put_raw(word: &[u8], range: Range, raw: u32, out: &mut [u8], at: usize) -> usize
-    requires { at + length word.now + 84 ≤ length out.old }
-    ensures { (result ≤ at + length word.now + 84) ×
-        ((length out.new ≡ length out.old) ×
-        (take result out.new ≡ take at out.old ++ (range_text word.now range ++ spaced raw))) }
+pub fn put_raw<const N: usize>(line: &mut Line<N>, word: &[u8], range: Range, raw: u32)
+    requires { length line.old + length word.now + 84 ≤ N }
+    ensures text { line.new ≡ line.old ++ (range_text word.now range ++ spaced raw) }
+    ensures room { length line.new ≤ length line.old + length word.now + 84 }
 {
-    let ended = put_range(word, range, out, at);
-    crate::bytes::put_spaced(raw as u64, out, ended)
+    put_range(line, word, range);
+    line.put_spaced(raw as u64)
 }
 
 // Puts ` read LENGTH`.
-pub fn put_read(len: u64, out: &mut [u8], at: usize) -> usize
-    requires { at + 87 ≤ length out.old }
-    ensures { (result ≤ at + 87) ×
-        ((length out.new ≡ length out.old) ×
-        (take result out.new ≡ take at out.old ++ fields_of read_word (len ∷ []))) }
+pub fn put_read<const N: usize>(line: &mut Line<N>, len: u64)
+    requires { length line.old + 87 ≤ N }
+    ensures text { line.new ≡ line.old ++ fields_of read_word (len ∷ []) }
+    ensures room { length line.new ≤ length line.old + 87 }
 {
     let numbers = [len];
-    put_fields(b" read", &numbers, out, at)
+    put_fields(line, b" read", &numbers)
 }
 
 // `flush QTAG NEED`
-pub fn flush_text(qtag: u64, need: u64, out: &mut [u8]) -> usize
-    requires { 128 ≤ length out.old }
-    ensures { (result ≤ 128) × (take result out.new ≡ flush_text qtag need) }
+#[tactic(auto, unfolding(crate::specs::Parts::flush_text))]
+pub fn flush_text<const N: usize>(line: &mut Line<N>, qtag: u64, need: u64)
+    requires { length line.old + 128 ≤ N }
+    ensures { line.new ≡ line.old ++ flush_text qtag need }
 {
-    let word = crate::bytes::put(b"flush", out, 0);
-    let tagged = crate::bytes::put_spaced(qtag, out, word);
-    let needed = crate::bytes::put_spaced(need, out, tagged);
-    crate::bytes::put(b"\n", out, needed)
+    line.put(b"flush");
+    line.put_spaced(qtag);
+    line.put_spaced(need);
+    line.put(b"\n")
 }
 
 // A word alone, with its line's end.
-pub fn word_text(line: &[u8], out: &mut [u8]) -> usize
-    requires { (length line.now ≤ 8) × (128 ≤ length out.old) }
-    ensures { (result ≤ 128) × (take result out.new ≡ line.now) }
+pub fn word_text<const N: usize>(line: &mut Line<N>, word: &[u8])
+    requires { (length word.now ≤ 8) × (length line.old + 128 ≤ N) }
+    ensures { line.new ≡ line.old ++ word.now }
 {
-    crate::bytes::put(line, out, 0)
+    line.put(word)
 }

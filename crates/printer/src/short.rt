@@ -1,58 +1,61 @@
 // What optrun prints of a reply: document 01's fields and no more, so no buffer, no ticket and no receipt.
-ghost use Rattle.std.specs.Prelude.{◌≡◌, [], ◌∷◌, ◌++◌, ◌≤◌, length, take};
+ghost use Rattle.std.specs.Prelude.{◌≡◌, [], ◌∷◌, ◌++◌, ◌+◌, ◌≤◌, length, take};
 ghost use Rattle.printer.specs.Parts.{refused_text};
 ghost use Rattle.printer.specs.ShortTook.{short_took};
 ghost use Rattle.printer.specs.Short.{short_text};
 
+use crate::bytes::Line;
 use completion::{Completion, Range, Reply};
 use domain::OsError;
 
 // `took TAG` and what the operation came to
-pub fn took_text(c: Completion, out: &mut [u8]) -> usize
-    requires { 128 ≤ length out.old }
-    ensures { (result ≤ 128) × (take result out.new ≡ short_took c) }
+#[tactic(auto, unfolding(crate::specs::Parts::bit, layout::specs::Pick::pick, crate::specs::ShortTook::short_took))]
+pub fn took_text<const N: usize>(line: &mut Line<N>, c: Completion)
+    requires { length line.old + 128 ≤ N }
+    ensures { line.new ≡ line.old ++ short_took c }
 {
-    let outcome = c.outcome;
-    let word = crate::bytes::put(b"took", out, 0);
-    let tagged = crate::bytes::put_spaced(c.tag, out, word);
-    let told = crate::outcomes::put_outcome(false, outcome, out, tagged);
-    crate::bytes::put(b"\n", out, told)
+    line.put(b"took");
+    line.put_spaced(c.tag);
+    crate::outcomes::put_outcome(line, false, c.outcome);
+    line.put(b"\n")
 }
 
 // A first piece refused.
-pub fn refused_text(range: Range, raw: OsError, out: &mut [u8]) -> usize
-    requires { 128 ≤ length out.old }
-    ensures { (result ≤ 128) × (take result out.new ≡ refused_text range raw ++ (10 ∷ [])) }
+pub fn refused_text<const N: usize>(line: &mut Line<N>, range: Range, raw: Option<OsError>)
+    requires { length line.old + 128 ≤ N }
+    ensures { line.new ≡ line.old ++ (refused_text range raw ++ (10 ∷ [])) }
 {
-    let told = crate::causes::put_refused(range, raw, out);
-    crate::bytes::put(b"\n", out, told)
+    crate::causes::put_refused(line, range, raw);
+    line.put(b"\n")
 }
 
 // What optrun prints of a reply. The longest line is that of an operation that ended in an OS error: `took TAG io REGION START END ERR`, at most 113
 // bytes.
+#[tactic(auto, unfolding(crate::specs::Short::short_text))]
 pub fn short_text(reply: Reply, out: &mut [u8; 128]) -> usize
     ensures { (result ≤ 128) × (take result out.new ≡ short_text reply) }
 {
+    let mut line = Line::<128>::new();
     match reply {
         Reply::Piece {
             qtag,
             offset,
             count,
-            buffer: _,
-        } => crate::lines::piece_text(qtag, offset.0, count, out),
-        Reply::No(refusal) => crate::lines::no_text(refusal, out),
-        Reply::Rejected {
-            range,
-            op: _,
-            raw,
-            buf: _,
-        } => refused_text(range, raw, out),
-        Reply::Done { qtag } => crate::lines::numbered_text(b"done", qtag, out),
-        Reply::Flush { qtag, need } => crate::parts::flush_text(qtag, need, out),
-        Reply::Took(c) => took_text(c, out),
-        Reply::None => crate::parts::word_text(b"none\n", out),
-        Reply::Ok => crate::parts::word_text(b"ok\n", out),
-        Reply::Writes(w) => crate::lines::numbered_text(b"writes", crate::parts::bit_of(w), out),
-        Reply::Mark(m) => crate::lines::numbered_text(b"mark", m, out),
+            ..
+        } => crate::lines::piece_text(&mut line, qtag, offset.0, count),
+        Reply::No(refusal) => crate::lines::no_text(&mut line, refusal),
+        Reply::Rejected { range, raw, .. } => refused_text(&mut line, range, raw),
+        Reply::Done { qtag } => crate::lines::numbered_text(&mut line, b"done", qtag),
+        Reply::Flush { qtag, need } => crate::parts::flush_text(&mut line, qtag, need),
+        Reply::Took(c) => took_text(&mut line, c),
+        Reply::None => crate::parts::word_text(&mut line, b"none\n"),
+        Reply::Ok => crate::parts::word_text(&mut line, b"ok\n"),
+        Reply::Writes(w) => crate::lines::numbered_text(
+            &mut line,
+            b"writes",
+            crate::parts::bit_of(w),
+        ),
+        Reply::Mark(m) => crate::lines::numbered_text(&mut line, b"mark", m),
     }
+    crate::bytes::put(line.text(), out, 0)
 }

@@ -1,54 +1,57 @@
-// Tickets, receipts and buffers of a taken completion's line, each put behind the first `at` bytes of a buffer.
-ghost use Rattle.std.specs.Prelude.{◌≡◌, [], ◌∷◌, ◌++◌, ◌+◌, ◌*◌, ◌≤◌, length, take};
+// Tickets, receipts and buffers of a taken completion's line, each put at the line's end.
+ghost use Rattle.std.specs.Prelude.{◌≡◌, [], ◌∷◌, ◌++◌, ◌+◌, ◌*◌, ◌≤◌, length};
 ghost use Rattle.layout.specs.Pick.{pick};
 ghost use Rattle.printer.specs.Parts.{fields_of, bit, cause_text, need_text, receipt_word};
 ghost use Rattle.printer.specs.Tickets.{buffer_word, buffer_text, ticket_text, receipt_text};
 ghost use Rattle.printer.specs.Outcomes.{place_text};
 
-use completion::{Buffer, DurableReceipt, Range, WriteTicket};
+use crate::bytes::Line;
+use completion::{DurableReceipt, Held, Range, WriteTicket};
 use domain::FirstCause;
 
 // Puts a buffer that came back, with its length.
-fn put_back(buffer: u64, len: u64, out: &mut [u8], at: usize) -> usize
-    requires { at + 49 ≤ length out.old }
-    ensures { (result ≤ at + 49) ×
-        ((length out.new ≡ length out.old) ×
-        (take result out.new ≡ take at out.old ++ fields_of buffer_word (buffer ∷ len ∷ []))) }
+fn put_back<const N: usize>(line: &mut Line<N>, buffer: u64, len: u64)
+    requires { length line.old + 49 ≤ N }
+    ensures text { line.new ≡ line.old ++ fields_of buffer_word (buffer ∷ len ∷ []) }
+    ensures room { length line.new ≤ length line.old + 49 }
 {
     let numbers = [buffer, len];
-    crate::parts::put_fields(b" buffer", &numbers, out, at)
+    crate::parts::put_fields(line, b" buffer", &numbers)
 }
 
 // Puts an operation's buffer, or that it did not come back.
-pub fn put_buffer(buf: Buffer, out: &mut [u8], at: usize) -> usize
-    requires { at + 49 ≤ length out.old }
-    ensures { (result ≤ at + 49) ×
-        ((length out.new ≡ length out.old) × (take result out.new ≡ take at out.old ++ buffer_text buf)) }
+#[tactic(auto, unfolding(crate::specs::Tickets::buffer_text))]
+pub fn put_buffer<const N: usize>(line: &mut Line<N>, buf: Option<Held>)
+    requires { length line.old + 49 ≤ N }
+    ensures text { line.new ≡ line.old ++ buffer_text buf }
+    ensures room { length line.new ≤ length line.old + 49 }
 {
     match buf {
-        Buffer::Back { buffer, len } => put_back(buffer, len, out, at),
-        Buffer::Lost => crate::bytes::put(b" lost", out, at),
+        Some(Held { buffer, len }) => put_back(line, buffer, len),
+        None => line.put(b" lost"),
     }
 }
 
 // Puts a ticket.
-fn put_ticket(t: WriteTicket, out: &mut [u8], at: usize) -> usize
-    requires { at + 154 ≤ length out.old }
-    ensures { (result ≤ at + 154) ×
-        ((length out.new ≡ length out.old) × (take result out.new ≡ take at out.old ++ ticket_text t)) }
+#[tactic(auto, unfolding(crate::specs::Tickets::ticket_text))]
+fn put_ticket<const N: usize>(line: &mut Line<N>, t: WriteTicket)
+    requires { length line.old + 154 ≤ N }
+    ensures text { line.new ≡ line.old ++ ticket_text t }
+    ensures room { length line.new ≤ length line.old + 154 }
 {
     let generation = t.generation as u64;
     let numbers = [
         t.volume, t.region, generation, t.start.0, t.end.0, t.need, t.epoch,
     ];
-    crate::parts::put_fields(b" ticket", &numbers, out, at)
+    crate::parts::put_fields(line, b" ticket", &numbers)
 }
 
 // Puts a receipt.
-fn put_receipt(d: DurableReceipt, out: &mut [u8], at: usize) -> usize
-    requires { at + 260 ≤ length out.old }
-    ensures { (result ≤ at + 260) ×
-        ((length out.new ≡ length out.old) × (take result out.new ≡ take at out.old ++ receipt_text d)) }
+#[tactic(auto, unfolding(crate::specs::Tickets::receipt_text))]
+fn put_receipt<const N: usize>(line: &mut Line<N>, d: DurableReceipt)
+    requires { length line.old + 260 ≤ N }
+    ensures text { line.new ≡ line.old ++ receipt_text d }
+    ensures room { length line.new ≤ length line.old + 260 }
 {
     let generation = d.generation as u64;
     let untorn = crate::parts::bit_of(d.untorn);
@@ -68,72 +71,66 @@ fn put_receipt(d: DurableReceipt, out: &mut [u8], at: usize) -> usize
         synced,
         d.epoch,
     ];
-    crate::parts::put_fields(b" receipt", &numbers, out, at)
+    crate::parts::put_fields(line, b" receipt", &numbers)
 }
 
 // Puts a word, a ticket's range and a need, and of the whole the ticket.
-pub fn put_ticketed(
+#[tactic(auto, unfolding(layout::specs::Pick::pick), using(crate::proofs::Bits::bit_set))]
+pub fn put_ticketed<const N: usize>(
+    line: &mut Line<N>,
     whole: bool,
     word: &[u8],
     t: WriteTicket,
     need: u64,
-    out: &mut [u8],
-    at: usize,
-) -> usize
-    requires { (length word.now ≤ 8) × (at + 71 + 154 * bit whole ≤ length out.old) }
-    ensures { (result ≤ at + 71 + 154 * bit whole) ×
-        ((length out.new ≡ length out.old) ×
-        (take result out.new ≡ take at out.old ++ (need_text word.now t need ++ pick whole (ticket_text t) []))) }
+)
+    requires { (length word.now ≤ 8) × (length line.old + 71 + 154 * bit whole ≤ N) }
+    ensures text { line.new ≡ line.old ++ (need_text word.now t need ++ pick whole (ticket_text t) []) }
+    ensures room { length line.new ≤ length line.old + 71 + 154 * bit whole }
 {
-    let needed = crate::parts::put_need(word, t, need, out, at);
+    crate::parts::put_need(line, word, t, need);
     if whole {
-        return put_ticket(t, out, needed);
+        put_ticket(line, t)
     }
-    needed
 }
 
 // Puts ` receipt START END NEED`, and of the whole `TICKET RECEIPT`.
-pub fn put_durable(
+#[tactic(auto, unfolding(layout::specs::Pick::pick), using(crate::proofs::Bits::bit_set))]
+pub fn put_durable<const N: usize>(
+    line: &mut Line<N>,
     whole: bool,
     t: WriteTicket,
     d: DurableReceipt,
-    out: &mut [u8],
-    at: usize,
-) -> usize
-    requires { at + 87 + 398 * bit whole ≤ length out.old }
-    ensures { (result ≤ at + 87 + 398 * bit whole) ×
-        ((length out.new ≡ length out.old) ×
-        (take result out.new ≡ take at out.old ++
-        (need_text receipt_word t d.need ++ pick whole (ticket_text t) [] ++ pick whole (receipt_text d) []))) }
+)
+    requires { length line.old + 87 + 398 * bit whole ≤ N }
+    ensures text { line.new ≡ line.old ++ (need_text receipt_word t d.need ++ pick whole (ticket_text t) [] ++ pick whole (receipt_text d) []) }
+    ensures room { length line.new ≤ length line.old + 87 + 398 * bit whole }
 {
-    let ticketed = put_ticketed(whole, b" receipt", t, d.need, out, at);
+    put_ticketed(line, whole, b" receipt", t, d.need);
     if whole {
-        return put_receipt(d, out, ticketed);
+        put_receipt(line, d)
     }
-    ticketed
 }
 
 // Puts ` unknown START END`, and of the whole its region before them.
-fn put_place(whole: bool, range: Range, out: &mut [u8], at: usize) -> usize
-    requires { at + 50 + 21 * bit whole ≤ length out.old }
-    ensures { (result ≤ at + 50 + 21 * bit whole) ×
-        ((length out.new ≡ length out.old) ×
-        (take result out.new ≡ take at out.old ++ place_text whole range)) }
+#[tactic(auto, unfolding(crate::specs::Outcomes::place_text, layout::specs::Pick::pick), using(crate::proofs::Bits::bit_set))]
+fn put_place<const N: usize>(line: &mut Line<N>, whole: bool, range: Range)
+    requires { length line.old + 50 + 21 * bit whole ≤ N }
+    ensures text { line.new ≡ line.old ++ place_text whole range }
+    ensures room { length line.new ≤ length line.old + 50 + 21 * bit whole }
 {
     if whole {
-        return crate::parts::put_range(b" unknown", range, out, at);
+        return crate::parts::put_range(line, b" unknown", range);
     }
     let numbers = [range.start.0, range.end.0];
-    crate::parts::put_fields(b" unknown", &numbers, out, at)
+    crate::parts::put_fields(line, b" unknown", &numbers)
 }
 
 // Puts ` unknown START END OP ERR`, of the whole ` unknown REGION START END OP ERR`.
-pub fn put_unknown(whole: bool, range: Range, cause: FirstCause, out: &mut [u8], at: usize) -> usize
-    requires { at + 77 + 21 * bit whole ≤ length out.old }
-    ensures { (result ≤ at + 77 + 21 * bit whole) ×
-        ((length out.new ≡ length out.old) ×
-        (take result out.new ≡ take at out.old ++ (place_text whole range ++ cause_text cause))) }
+pub fn put_unknown<const N: usize>(line: &mut Line<N>, whole: bool, range: Range, cause: FirstCause)
+    requires { length line.old + 77 + 21 * bit whole ≤ N }
+    ensures text { line.new ≡ line.old ++ (place_text whole range ++ cause_text cause) }
+    ensures room { length line.new ≤ length line.old + 77 + 21 * bit whole }
 {
-    let placed = put_place(whole, range, out, at);
-    crate::causes::put_cause(cause, out, placed)
+    put_place(line, whole, range);
+    crate::causes::put_cause(line, cause)
 }

@@ -15,19 +15,17 @@ use Rattle.regionmap.specs.Found.{wrap64}
 use Rattle.completion.specs.declared.Refusal.{Refusal}
 use Rattle.completion.specs.declared.Refusal.TheVariants.{Unfit}
 use Rattle.completion.specs.declared.Reply.{Reply}
-use Rattle.completion.specs.declared.Reply.TheVariants.{Piece as piece, No as turnedAway, Rejected, Done, Flush, Took, None, Ok, Writes, Mark}
+use Rattle.completion.specs.declared.Reply.TheVariants.{Piece as piece, No as turnedAway, Rejected, Done, Flush, Took, None, Ok as ok, Writes, Mark}
 use Rattle.model.specs.declared.Counts.{Counts}
 use Rattle.model.specs.declared.Row.{Row}
 use Rattle.model.specs.declared.Request.{Request}
 use Rattle.model.specs.declared.Call.{Call}
 use Rattle.model.specs.declared.Kind.{Kind}
-use Rattle.model.specs.declared.Asked.{Asked}
-use Rattle.model.specs.declared.Asked.TheVariants.{Yes, No}
-use Rattle.model.specs.declared.Verdict.{Verdict}
-use Rattle.model.specs.declared.Verdict.TheVariants.{No as refuses, Accept}
+use Rattle.step.specs.Questions.{Asked}
+use Rattle.std.specs.declared.result.Result.TheVariants.{Ok, Err}
 use Rattle.model.specs.State.{State, freed}
 use Rattle.model.specs.Memory.{Lent, lengths_of, same_lengths, settings_in, state_in}
-use Rattle.step.specs.Step.{queue_tag, claimed_by, top_of, row_at, one_more, accepted, verdict_of, submitted, called, step}
+use Rattle.step.specs.Step.{queue_tag, claimed_by, top_of, row_at, one_more, accepted, verdict_of, submitted, called, step, Verdict}
 use Rattle.step.specs.Sound.{Sound}
 use Rattle.step.proofs.Answers.{Passed}
 use Rattle.step.proofs.Taken as stack
@@ -48,28 +46,31 @@ Away (Done t) = ⊥
 Away (Flush t n) = ⊥
 Away (Took c) = ⊥
 Away None = ⊥
-Away Ok = ⊥
+Away ok = ⊥
 Away (Writes w) = ⊥
 Away (Mark m) = ⊥
 
+abbrev accept : ℕ → Kind → FoundPiece → Verdict
+accept r k p = Ok (record { row = r; kind = k; piece = p })
+
 abbrev Accepts : Verdict → Type 0
-Accepts (refuses f) = ⊥
-Accepts (Accept r k p) = Unit {0}
+Accepts (Err f) = ⊥
+Accepts (Ok a) = Unit {0}
 
 abbrev row_of : Verdict → ℕ
-row_of (refuses f) = 0
-row_of (Accept r k p) = r
+row_of (Err f) = 0
+row_of (Ok a) = a.row
 
 -- an accepting verdict had a yes, and names the row on top of the stack
-pub accepts_yes : (asked : Asked) (s : State) (k : Kind) (q : Request) (v : Verdict) → v ≡ verdict_of asked s k q → Accepts v → asked ≡ Yes
+pub accepts_yes : (asked : Asked) (s : State) (k : Kind) (q : Request) (v : Verdict) → v ≡ verdict_of asked s k q → Accepts v → asked ≡ Ok tt
 unfolding verdict_of
-accepts_yes Yes s k q v e a = refl
-accepts_yes (No f) s k q v e a = absurd (subst Accepts e a)
+accepts_yes (Ok _) s k q v e a = refl
+accepts_yes (Err f) s k q v e a = absurd (subst Accepts e a)
 
 pub accepts_top : (asked : Asked) (s : State) (k : Kind) (q : Request) (v : Verdict) → v ≡ verdict_of asked s k q → Accepts v → row_of v ≡ top_of s.free
 unfolding verdict_of
-accepts_top Yes s k q v e a = ap row_of e
-accepts_top (No f) s k q v e a = absurd (subst Accepts e a)
+accepts_top (Ok _) s k q v e a = ap row_of e
+accepts_top (Err f) s k q v e a = absurd (subst Accepts e a)
 
 -- what an accepting verdict of a state means
 pub record Went (s : State) (q : Request) (v : Verdict) : Type 0 where
@@ -101,32 +102,32 @@ module _ (c : Counts) (rows : List Row) (store free ready owners pool : List ℕ
   same_rows : (row : Row) → row ≡ get_or rows at (freed 0) → set rows at row ≡ rows
   same_rows row found = ap (set rows at) found ∙ set-get_or rows at (freed 0)
 
-  refused_lent : (f : Refusal) (row : Row) → row ≡ get_or rows at (freed 0) → l' (refuses f) row ≡ l
+  refused_lent : (f : Refusal) (row : Row) → row ≡ get_or rows at (freed 0) → l' (Err f) row ≡ l
   unfolding issued owners_after away_with
   refused_lent f row found = λ i. lent_of (same_rows row found i) store free ready owners pool
 
-  refused_counts : (f : Refusal) (row : Row) → c' (refuses f) row ≡ c
+  refused_counts : (f : Refusal) (row : Row) → c' (Err f) row ≡ c
   unfolding issued away_with released_by accepted_if pick
   refused_counts f row = refl
 
   -- the state and the reply of a refusal
-  refused_step : (f : Refusal) (row : Row) → row ≡ get_or rows at (freed 0) → ◌≡◌ {A = State × Reply} (s, turnedAway f) (state_in (c' (refuses f) row) (l' (refuses f) row), (t (refuses f) row).reply)
+  refused_step : (f : Refusal) (row : Row) → row ≡ get_or rows at (freed 0) → ◌≡◌ {A = State × Reply} (s, turnedAway f) (state_in (c' (Err f) row) (l' (Err f) row), (t (Err f) row).reply)
   unfolding issued away_with
   refused_step f row found = λ i. (state_in (sym (refused_counts f row) i) (sym (refused_lent f row found) i), turnedAway f)
 
   turned_away : (v : Verdict) (row : Row) → row ≡ get_or rows at (freed 0) → (f : Refusal) → (t v row).reply ≡ turnedAway f → (c' v row ≡ c) × (l' v row ≡ l)
   unfolding issued away_with
-  turned_away (refuses g) row found f e = (refused_counts g row, refused_lent g row found)
-  turned_away (Accept r k p) row found f e = absurd (subst Away (sym e) tt)
+  turned_away (Err g) row found f e = (refused_counts g row, refused_lent g row found)
+  turned_away (Ok a) row found f e = absurd (subst Away (sym e) tt)
 
   -- a submission is replied a piece or a refusal
   not_none : (v : Verdict) (row : Row) → (t v row).reply ≡ None → ⊥
   unfolding issued away_with
-  not_none (refuses f) row e = let z : ◌≡◌ {A = ℕ} 0 1 = cc in omega arith
-  not_none (Accept r k p) row e = let z : ◌≡◌ {A = ℕ} 0 1 = cc in omega arith
+  not_none (Err f) row e = let z : ◌≡◌ {A = ℕ} 0 1 = cc in omega arith
+  not_none (Ok a) row e = let z : ◌≡◌ {A = ℕ} 0 1 = cc in omega arith
 
   -- ---- an accepted one, of a sound table
-  module _ (i : Sound s) (r : ℕ) (k : Kind) (p : FoundPiece) (w : Went s q (Accept r k p)) (row : Row) (found : row ≡ get_or rows at (freed 0)) (top-at : at ≡ top_of s.free) where
+  module _ (i : Sound s) (r : ℕ) (k : Kind) (p : FoundPiece) (w : Went s q (accept r k p)) (row : Row) (found : row ≡ get_or rows at (freed 0)) (top-at : at ≡ top_of s.free) where
     row_at_lem : r ≡ at
     row_at_lem = w.top ∙ sym top-at
 
@@ -145,7 +146,7 @@ module _ (c : Counts) (rows : List Row) (store free ready owners pool : List ℕ
     unfolding row_at state_in
     found_at = found ∙ ap (λ (j : ℕ). get_or rows j (freed 0)) (sym row_at_lem) ∙ sym (get_or-take (settings_in store).depth rows r (freed 0) below')
 
-    counts_are : c' (Accept r k p) row ≡ one_more c
+    counts_are : c' (accept r k p) row ≡ one_more c
     unfolding issued released_by accepted_if pick one_more wrap64 state_in
     counts_are =
         let room = w.passed.room in
@@ -164,25 +165,25 @@ module _ (c : Counts) (rows : List Row) (store free ready owners pool : List ℕ
         let deep = i.numbers.most_depth in
         mod-eq_of_lt (omega (arith, generation, small, deep)) ∙ ap (λ (x : Row). r + x.generation * 2 ^ 32) found_at
 
-    lent_is : l' (Accept r k p) row ≡ stored_in l r (claimed_by (row_at s r).generation c.submissions k q) q.buffer
+    lent_is : l' (accept r k p) row ≡ stored_in l r (claimed_by (row_at s r).generation c.submissions k q) q.buffer
     unfolding issued owners_after
     lent_is = λ j. lent_of (set rows (sym row_at_lem j) (claimed_by (found_at j).generation c.submissions k q)) store free ready (set owners q.buffer 1) pool
 
-    state_is : state_in (c' (Accept r k p) row) (l' (Accept r k p) row) ≡ accepted s r k q
+    state_is : state_in (c' (accept r k p) row) (l' (accept r k p) row) ≡ accepted s r k q
     unfolding accepted state_in
     state_is = (λ j. state_in (counts_are j) (lent_is j)) ∙ taken_in c l r (claimed_by (row_at s r).generation c.submissions k q) q.buffer below' among
 
-    accepted_step : submitted s q (Accept r k p) ≡ (state_in (c' (Accept r k p) row) (l' (Accept r k p) row), (t (Accept r k p) row).reply)
+    accepted_step : submitted s q (accept r k p) ≡ (state_in (c' (accept r k p) row) (l' (accept r k p) row), (t (accept r k p) row).reply)
     unfolding submitted issued
     accepted_step = λ j. (sym state_is j, piece (sym tag_is j) p.offset p.count q.buffer)
 
-    accepted_beyond : Beyond (settings_in store) l (l' (Accept r k p) row)
+    accepted_beyond : Beyond (settings_in store) l (l' (accept r k p) row)
     unfolding issued owners_after lengths_of
     accepted_beyond =
         let place : at < (settings_in store).depth = subst (λ (j : ℕ). j < (settings_in store).depth) row_at_lem below' in
         record {
-          lengths = λ j. record { rows = length-set rows at (t (Accept r k p) row).row j; store = length store; free = length free; ready = length ready; owners = length-set owners q.buffer 1 j; pool = length pool };
-          rows = drop-set-lt (settings_in store).depth rows at (t (Accept r k p) row).row place;
+          lengths = λ j. record { rows = length-set rows at (t (accept r k p) row).row j; store = length store; free = length free; ready = length ready; owners = length-set owners q.buffer 1 j; pool = length pool };
+          rows = drop-set-lt (settings_in store).depth rows at (t (accept r k p) row).row place;
           store = refl;
           free = refl;
           ready = refl;
@@ -198,12 +199,12 @@ module _ (c : Counts) (rows : List Row) (store free ready owners pool : List ℕ
   module _ (i : Sound s) (same : same_lengths (lengths_of l) store ≡ true) (row : Row) (found : row ≡ get_or rows at (freed 0)) where
     went_step : (v : Verdict) → (Accepts v → Went s q v) → submitted s q v ≡ (state_in (c' v row) (l' v row), (t v row).reply)
     unfolding submitted
-    went_step (refuses f) w = refused_step f row found
-    went_step (Accept r k p) w = accepted_step i r k p (w tt) row found (top_is c rows store free ready owners pool i same q (w tt).passed)
+    went_step (Err f) w = refused_step f row found
+    went_step (Ok a) w = accepted_step i a.row a.kind a.piece (w tt) row found (top_is c rows store free ready owners pool i same q (w tt).passed)
 
     went_beyond : (v : Verdict) → (Accepts v → Went s q v) → Beyond (settings_in store) l (l' v row)
-    went_beyond (refuses f) w = refused_beyond (l' (refuses f) row) (refused_lent f row found)
-    went_beyond (Accept r k p) w = accepted_beyond i r k p (w tt) row found (top_is c rows store free ready owners pool i same q (w tt).passed)
+    went_beyond (Err f) w = refused_beyond (l' (Err f) row) (refused_lent f row found)
+    went_beyond (Ok a) w = accepted_beyond i a.row a.kind a.piece (w tt) row found (top_is c rows store free ready owners pool i same q (w tt).passed)
 
   module _ (same : same_lengths (lengths_of l) store ≡ true) (verdict : State → Request → Verdict) (call : Call) (is : (x : State) → called x call ≡ submitted x q (verdict x q))
       (goes : (x : State) (v : Verdict) → v ≡ verdict x q → Accepts v → Went x q v) (v : Verdict) (d : Decides verdict c store free owners q v) (row : Row) (found : row ≡ get_or rows at (freed 0)) where
@@ -227,7 +228,7 @@ module _ (c : Counts) (rows : List Row) (store free ready owners pool : List ℕ
 
 -- ---- a verdict of either kind
 
-pub went : (asked : Asked) (s : State) (k : Kind) (q : Request) → (asked ≡ Yes → Passed s q) → (v : Verdict) → v ≡ verdict_of asked s k q → Accepts v → Went s q v
+pub went : (asked : Asked) (s : State) (k : Kind) (q : Request) → (asked ≡ Ok tt → Passed s q) → (v : Verdict) → v ≡ verdict_of asked s k q → Accepts v → Went s q v
 went asked s k q passed v e a = record { passed = passed (accepts_yes asked s k q v e a); top = accepts_top asked s k q v e a }
 
 -- a submission, with the verdict's outcome and the owners as the code has them

@@ -1,8 +1,11 @@
 // Which function a call goes to (the arms of store-io's queue_core.rs and submitter/mod.rs), once the lengths are found to be the opening's.
 ghost use Rattle.std.specs.Prelude.{List, ℕ};
+ghost use Rattle.memory.specs.Words.{SameWords};
 ghost use Rattle.optable.specs.Called.{ArmTo};
+ghost use Rattle.arrival.specs.Lent.{ArmIn};
 
 use arrival::Arrived;
+use memory::words::Words;
 use model::{Call, Counts, Request, Row};
 use optable::touched::Touched;
 
@@ -48,56 +51,56 @@ pub fn arm(
     row: Row,
     counts: Counts,
     rows: usize,
-    store: &mut [u64],
-    free: &mut [u64],
-    ready: &mut [u64],
-    owners: &mut [u64],
+    words: &mut Words,
     pool: &mut [u8],
 ) -> Touched
-    ensures { ArmTo call row counts rows
-        store.old free.old ready.old owners.old pool.old
-        result store.new free.new ready.new owners.new pool.new }
+    ensures same { SameWords words.old words.new }
+    ensures arm { ArmIn call row counts rows words.old pool.old result words.new pool.new }
 {
     match call {
-        Call::Write(q) => write(q, row, counts, rows, store, free, owners),
-        Call::ReadPage(q) => read_page(q, row, counts, rows, store, free, owners),
+        Call::Write(q) => {
+            let store = &mut *words.store;
+            let free = &mut *words.free;
+            write(q, row, counts, rows, store, free, words.owners)
+        }
+        Call::ReadPage(q) => {
+            let store = &mut *words.store;
+            let free = &mut *words.free;
+            read_page(q, row, counts, rows, store, free, words.owners)
+        }
         Call::Answer {
             qtag,
             answer,
             back,
             flushes,
-        } => arrival::arrive(
-            qtag,
-            Arrived::Answer {
+        } => {
+            let what = Arrived::Answer {
                 answer,
                 back,
                 flushes,
-            },
-            row,
-            counts,
-            rows,
-            store,
-            free,
-            ready,
-            owners,
-            pool,
-        ),
-        Call::Flushed { qtag, result } => arrival::arrive(
-            qtag,
-            Arrived::Flushed(result),
-            row,
-            counts,
-            rows,
-            store,
-            free,
-            ready,
-            owners,
-            pool,
-        ),
-        Call::Take => arrival::take::take(row, counts, store, ready, owners),
-        Call::SetGate { handle, gate } => marks::gate::set_gate(row, store, handle, gate),
-        Call::SetReadOnly { handle, on } => marks::gate::set_read_only(row, store, handle, on),
-        Call::SetForced { handle, on } => marks::gate::set_forced(row, store, handle, on),
-        Call::ReportPoison(cause) => marks::poison::report_poison(row, store, cause),
+            };
+            arrival::arrive(qtag, what, row, counts, rows, words, pool)
+        }
+        Call::Flushed { qtag, result } => {
+            arrival::arrive(
+                qtag,
+                Arrived::Flushed(result),
+                row,
+                counts,
+                rows,
+                words,
+                pool,
+            )
+        }
+        Call::Take => {
+            let store = &mut *words.store;
+            arrival::take::take(row, counts, store, words.ready, words.owners)
+        }
+        Call::SetGate { handle, gate } => marks::gate::set_gate(row, words.store, handle, gate),
+        Call::SetReadOnly { handle, on } => {
+            marks::gate::set_read_only(row, words.store, handle, on)
+        }
+        Call::SetForced { handle, on } => marks::gate::set_forced(row, words.store, handle, on),
+        Call::ReportPoison(cause) => marks::poison::report_poison(row, words.store, cause),
     }
 }

@@ -6,9 +6,11 @@
 
 pub mod dispatch;
 
-ghost use Rattle.optable.specs.Called.{TouchesTo};
+ghost use Rattle.memory.specs.Words.{SameWords};
+ghost use Rattle.arrival.specs.Lent.{TouchesIn};
 
 use completion::Refusal;
+use memory::words::Words;
 use model::{Call, Counts, Row};
 use optable::touched::Touched;
 
@@ -18,18 +20,14 @@ pub fn touch(
     row: Row,
     counts: Counts,
     rows: usize,
-    store: &mut [u64],
-    free: &mut [u64],
-    ready: &mut [u64],
-    owners: &mut [u64],
+    words: &mut Words,
     pool: &mut [u8],
 ) -> Touched
-    ensures { TouchesTo call row counts rows
-        store.old free.old ready.old owners.old pool.old
-        result store.new free.new ready.new owners.new pool.new }
+    ensures same { SameWords words.old words.new }
+    ensures touches { TouchesIn call row counts rows words.old pool.old result words.new pool.new }
 {
-    if !memory::lengths::fits(rows, store, free, ready, owners, pool) {
+    if !words.fits(rows, pool.len()) {
         return optable::touched::away(row, Refusal::Unfit);
     }
-    crate::dispatch::arm(call, row, counts, rows, store, free, ready, owners, pool)
+    crate::dispatch::arm(call, row, counts, rows, words, pool)
 }

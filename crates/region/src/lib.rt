@@ -10,51 +10,43 @@ pub mod receipt;
 ghost use Rattle.std.specs.Prelude.{◌≡◌, ◌&&◌, [], ◌∷◌, ◌+◌, ◌^◌, leb, ltb};
 ghost use Rattle.step.specs.Questions.{first_no, volume_and_region_match, generation_matches, length_above0, aligned, within_data};
 
+use crate::ready::ask;
 use completion::{Context, Refusal};
-use model::{Asked, Request};
+use model::Request;
 use regionmap::Position;
 
 // Questions 10 and 11: do volume and region match, does the generation?
-pub fn names(volume: u64, id: u64, generation: u64, c: Context, q: Request) -> Asked
+pub fn names(volume: u64, id: u64, generation: u64, c: Context, q: Request) -> Result<(), Refusal>
     ensures { result ≡ first_no (volume_and_region_match volume id c q ∷ generation_matches generation c q ∷ []) }
 {
-    if q.volume != volume {
-        return Asked::No(Refusal::ForeignPosition(c)); // another volume
-    }
-    if q.region != id {
-        return Asked::No(Refusal::ForeignPosition(c)); // another region
-    }
-    crate::ready::ask(q.generation == generation, Refusal::StaleGeneration(c))
+    ask(
+        q.volume == volume && q.region == id,
+        Refusal::ForeignPosition(c),
+    )?;
+    ask(q.generation == generation, Refusal::StaleGeneration(c))
 }
 
 // Question 13, of a write and of a read: are offset and length multiples of the block? The Rust's `check`, of a write, does not test the offset
 // (docs/DIFFERENCES.md).
-fn alignment(block: u64, c: Context, q: Request) -> Asked
+fn alignment(block: u64, c: Context, q: Request) -> Result<(), Refusal>
     ensures { result ≡ aligned block c q }
 {
-    let offset = layout::on_block(block, q.offset.0);
-    let length = layout::on_block(block, q.length);
-    crate::ready::ask(layout::both(offset, length), Refusal::Misaligned(c))
+    let on_block = layout::on_block(block, q.offset.0) && layout::on_block(block, q.length);
+    ask(on_block, Refusal::Misaligned(c))
 }
 
 // The range ends within the data; no sum is made, so none wraps (checked_add).
 fn within(start: Position, length: u64, data: u64) -> bool
     ensures { result ≡ (ltb (start.0 + length) (2 ^ 64) && leb (start.0 + length) «data») }
 {
-    if data < start.0 {
-        return false;
-    }
-    length <= data - start.0
+    start.0 <= data && length <= data - start.0
 }
 
 // Questions 12 to 14: is the length above 0, are offset and length multiples of the block, is the range within the data?
-pub fn check(data: u64, block: u64, c: Context, q: Request) -> Asked
+pub fn check(data: u64, block: u64, c: Context, q: Request) -> Result<(), Refusal>
     ensures { result ≡ first_no (length_above0 c q ∷ aligned block c q ∷ within_data «data» c q ∷ []) }
 {
-    if q.length == 0 {
-        return Asked::No(Refusal::Empty(c));
-    }
-    let on_block = alignment(block, c, q);
-    let bounds = crate::ready::ask(within(q.offset, q.length, data), Refusal::OutOfBounds(c));
-    crate::ready::both(on_block, bounds)
+    ask(0 < q.length, Refusal::Empty(c))?;
+    alignment(block, c, q)?;
+    ask(within(q.offset, q.length, data), Refusal::OutOfBounds(c))
 }

@@ -4,8 +4,7 @@ ghost use Rattle.regionmap.specs.Words.{position_of};
 ghost use Rattle.step.specs.Questions.{range_from, ask as asks, first_no, store_writable, unpoisoned, region_writable};
 
 use completion::{Context, Range, Refusal};
-use domain::Poisoned;
-use model::Asked;
+use domain::FirstCause;
 use regionmap::Position;
 
 // "Context is the region's id." (ctx)
@@ -19,13 +18,7 @@ pub fn ctx(id: u64) -> Context
 fn capped_end(start: Position, length: u64) -> Position
     ensures { result ≡ position_of (min (start.0 + length) (2 ^ 64 - 1)) }
 {
-    let most: u64 = 0xffff_ffff_ffff_ffff;
-    if most - start.0 < length {
-        Position(most)
-    } else {
-        let end = start.0 + length;
-        Position(end)
-    }
+    Position(start.0.saturating_add(length))
 }
 
 // "Questions 12 to 14 of a read add the range" (ctx_range).
@@ -39,32 +32,25 @@ pub fn ctx_range(id: u64, start: Position, length: u64) -> Context
     })
 }
 
-// One question.
-pub fn ask(test: bool, refusal: Refusal) -> Asked
+// One question: yes, or the refusal.
+pub fn ask(test: bool, refusal: Refusal) -> Result<(), Refusal>
     ensures { result ≡ asks test refusal }
 {
-    if test { Asked::Yes } else { Asked::No(refusal) }
-}
-
-// Two groups of questions, one after the other.
-pub fn both(first: Asked, second: Asked) -> Asked
-    ensures { result ≡ first_no (first ∷ second ∷ []) }
-{
-    match first {
-        Asked::No(refusal) => Asked::No(refusal),
-        Asked::Yes => second,
-    }
+    if test { Ok(()) } else { Err(refusal) }
 }
 
 // Questions 7 to 9: may the store be written, is it unpoisoned, may the region be written (Store::ready, ready_for)?
-pub fn ready_for(read_only: bool, poison: Poisoned, region_read_only: bool, c: Context) -> Asked
+pub fn ready_for(
+    read_only: bool,
+    poison: Option<FirstCause>,
+    region_read_only: bool,
+    c: Context,
+) -> Result<(), Refusal>
     ensures { result ≡ first_no (store_writable read_only ∷ unpoisoned poison ∷ region_writable region_read_only c ∷ []) }
 {
-    if read_only {
-        return Asked::No(Refusal::ReadOnly(Context::None));
+    ask(!read_only, Refusal::ReadOnly(Context::None))?;
+    if let Some(first) = poison {
+        return Err(Refusal::Poisoned(first));
     }
-    match poison {
-        Poisoned::First(first) => Asked::No(Refusal::Poisoned(first)),
-        Poisoned::Never => ask(!region_read_only, Refusal::ReadOnly(c)),
-    }
+    ask(!region_read_only, Refusal::ReadOnly(c))
 }

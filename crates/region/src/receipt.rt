@@ -4,7 +4,6 @@ ghost use Rattle.model.specs.State.{receipt_made};
 
 use completion::{DurableReceipt, WriteTicket};
 use model::Opening;
-use regionmap::Position;
 
 // The receipt for a ticket, of a flush result's need (io.rs's receipt_for).
 pub fn receipt_for(o: Opening, t: WriteTicket, need: u64) -> DurableReceipt
@@ -16,8 +15,8 @@ pub fn receipt_for(o: Opening, t: WriteTicket, need: u64) -> DurableReceipt
         generation: t.generation,
         class: o.class,
         label: o.label,
-        start: Position(t.start.0),
-        through: Position(t.end.0),
+        start: t.start,
+        through: t.end,
         untorn: false,
         need,
         prefix: false,

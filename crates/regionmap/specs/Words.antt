@@ -11,7 +11,8 @@ runs_in (suc n) ws = record { start = slice_index ws 0; offset = slice_index ws 
 
 -- the map in words
 unfoldable pub map_in : List ℕ → Map
-map_in ws = record { first = slice_index ws 0; more = runs_in (slice_index ws 3) (drop 4 ws); capacity = slice_index ws 1; data_length = slice_index ws 2 }
+map_in ws =
+    record { first = slice_index ws 0; more = runs_in (slice_index ws 3) (drop 4 ws); capacity = slice_index ws 1; data_length = slice_index ws 2 }
 
 -- positions and offsets in the code's own types
 abbrev pub position_of : ℕ → Position

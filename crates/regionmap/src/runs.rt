@@ -8,6 +8,8 @@ ghost use Rattle.regionmap.specs.Found.{HoldsMap, LastStart, found_of};
 use crate::{FoundRun, Offset, Position};
 
 // How many of the further runs start at or before pos, found by halving (the loop of RegionMap::run_of).
+// Its contract holds where the starts do not ascend too; of such a slice partition_point says nothing.
+#[tactic(auto, using(crate::proofs::Found::all_runs, crate::proofs::Found::upper, crate::proofs::Found::lower, crate::proofs::Found::met))]
 fn runs_up_to(map: &[u64], count: usize, pos: Position) -> usize
     requires { 4 + 2 * count ≤ length map.now }
     ensures { LastStart map.now count pos.0 result }

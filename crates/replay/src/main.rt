@@ -3,5 +3,5 @@
 #![tactic(auto)]
 
 fn main(rt: HostRuntime) {
-    session::program::replay(rt.stdin(), rt.stdout(), false);
+    session::program::replay(rt.stdin(), rt.stdout());
 }

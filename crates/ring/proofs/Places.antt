@@ -1,18 +1,18 @@
 -- The places of a ring in words.
-use mathlib.Core.Path.{◌≡◌, sym, ap, ap₂, ◌∙◌}
+use mathlib.Core.Path.{◌≡◌, sym, ◌∙◌}
 use mathlib.Core.Bool.{Bool, true, false}
-use mathlib.Core.List.{List, ◌++◌, append_assoc}
+use mathlib.Core.List.{List}
 use Prim.Native.Nat.{ℕ, suc, ◌+◌, ◌≤◌, ◌%◌}
-use native.Mathlib.Nat.{mod-lt}
+use native.Mathlib.Nat.{mod-lt, add-mod, mod-add-mod}
+use native.Mathlib.Numerals.{add-one}
 use native.Mathlib.Omega.{arith}
 use borrow.Author.Tests.{ltb-true, leb-true, lt-ltb, le-leb}
-use lib.ListN.{length, get_or, take, drop, set}
-use lib.Seq.{take_all, drop-drop, paste}
+use lib.ListN.{length, get_or, set}
 use lib.Dec.{ltb, leb}
 use Rattle.layout.specs.Pick.{pick}
 use Rattle.layout.proofs.Tests.{and_left, and_right, and_both}
 use Rattle.completion.specs.declared.Completion.{Completion}
-use Rattle.model.specs.Memory.{over, completion_words}
+use Rattle.model.specs.Memory.{completion_words}
 use Rattle.ring.specs.Queue.{Ring, ring_in, place_in, placed, published, popped}
 
 -- the test, and what it means
@@ -36,14 +36,6 @@ module _ (d : ℕ) (ws : List ℕ) where
   unfolding place_in
   place_room n r = omega (arith, r.room, mod-lt (get_or ws 0 0 + n) r.some)
 
--- n words, pasted, are placed
-pub paste_placed : (k n : ℕ) (xs ws : List ℕ) → length xs ≡ n → paste ws k xs n ≡ placed k xs ws
-unfolding placed over
-paste_placed k n xs ws e =
-    let all : length xs ≤ n = omega arith in
-    append_assoc (take k ws) (take n xs) (drop (k + n) ws)
-    ∙ ap₂ (λ (ys zs : List ℕ). take k ws ++ (ys ++ zs)) (take_all n xs all) (sym (drop-drop n k ws) ∙ ap (λ (m : ℕ). drop m (drop k ws)) (sym e))
-
 -- what is published and popped, where there is a ring and where not
 module _ (d n : ℕ) (c : Completion) (ws : List ℕ) where
   pub published_in : ring_in d ws ≡ true → published d n c ws ≡ placed (place_in d n ws) (completion_words c) ws
@@ -62,3 +54,10 @@ module _ (d : ℕ) (ws : List ℕ) where
   pub popped_not : ring_in d ws ≡ false → popped d ws ≡ ws
   unfolding popped pick
   popped_not e = rw e
+
+-- what the functions on a ring go by
+pub ruleset place_steps = (add-mod, mod-lt)
+
+pub ruleset publish_steps = (ring_holds, place_room, published_in, published_not)
+
+pub ruleset pop_steps = (ring_holds, popped_in, popped_not, mod-lt, mod-add-mod, add-one)

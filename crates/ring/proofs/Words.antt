@@ -5,8 +5,8 @@ use Prim.Native.Nat.{ℕ}
 use lib.ListN.{get_or}
 use Rattle.completion.specs.declared.Outcome.{Outcome}
 use Rattle.completion.specs.declared.Outcome.TheVariants.{Written, Receipt, Read, Unknown, Interrupted, Corruption, Io, QueueFull, Poisoned as poisoned_by}
-use Rattle.completion.specs.declared.Buffer.{Buffer}
-use Rattle.completion.specs.declared.Buffer.TheVariants.{Back, Lost}
+use Rattle.completion.specs.Buffers.{Buffer}
+use Rattle.std.specs.declared.option.Option.TheVariants.{Some as Back, None as Lost}
 use Rattle.completion.specs.declared.Completion.{Completion}
 use Rattle.model.specs.Memory.{outcome_words, buffer_words, generation_word, completion_words}
 
@@ -31,7 +31,7 @@ outcome_ten (poisoned_by e) rest = refl
 
 buffer_three : (b : Buffer) (ys : List ℕ) → three (buffer_words b) ys ≡ buffer_words b ++ ys
 unfolding buffer_words
-buffer_three (Back b n) ys = refl
+buffer_three (Back h) ys = refl
 buffer_three Lost ys = refl
 
 pub words_are : (c : Completion) (x b : List ℕ) → x ≡ outcome_words c.outcome ++ (generation_word c.outcome ∷ []) → b ≡ buffer_words c.buf

@@ -2,7 +2,7 @@
 ghost use Rattle.std.specs.Prelude.{◌≡◌, ◌≤◌, length};
 ghost use Rattle.model.specs.Memory.{range_in, ticket_in, outcome_in, buffer_in, completion_in};
 
-use completion::{Buffer, Completion, Outcome, Range, WriteTicket};
+use completion::{Completion, Held, Outcome, Range, WriteTicket};
 use model::Opening;
 use regionmap::Position;
 
@@ -43,7 +43,6 @@ fn outcome_of(w: &[u64], o: Opening) -> Outcome
     let t = ticket_of(w, o);
     let r = range_of(w);
     let e = memory::causes::cause_of(w[7], w[8], w[9]);
-    let op = e.op;
     match kind {
         1 => Outcome::Written(t),
         2 => Outcome::Receipt(t, region::receipt::receipt_for(o, t, w[6])),
@@ -53,7 +52,7 @@ fn outcome_of(w: &[u64], o: Opening) -> Outcome
         6 => Outcome::Corruption(r),
         7 => Outcome::Io {
             range: r,
-            op,
+            op: e.op,
             raw: (w[9] % 4294967296) as u32,
         },
         8 => Outcome::QueueFull(r),
@@ -62,13 +61,13 @@ fn outcome_of(w: &[u64], o: Opening) -> Outcome
 }
 
 // The buffer, of words 10 to 12.
-fn buffer_of(back: u64, buffer: u64, len: u64) -> Buffer
+fn buffer_of(back: u64, buffer: u64, len: u64) -> Option<Held>
     ensures { result ≡ buffer_in back buffer len }
 {
     if back == 0 {
-        Buffer::Lost
+        None
     } else {
-        Buffer::Back { buffer, len }
+        Some(Held { buffer, len })
     }
 }
 

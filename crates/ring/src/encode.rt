@@ -2,7 +2,7 @@
 ghost use Rattle.std.specs.Prelude.{◌≡◌, [], ◌∷◌, ◌++◌};
 ghost use Rattle.model.specs.Memory.{op_word, has_word, raw_word, outcome_words, buffer_words, generation_word, completion_words};
 
-use completion::{Buffer, Completion, Outcome, Range, WriteTicket};
+use completion::{Completion, Held, Outcome, Range, WriteTicket};
 use domain::FirstCause;
 use regionmap::Position;
 
@@ -35,14 +35,12 @@ fn range_words(kind: u64, r: Range, op: u64, has: u64, raw: u64) -> [u64; 10]
 fn cause_words(kind: u64, r: Range, e: FirstCause) -> [u64; 10]
     ensures { result ≡ kind ∷ r.region ∷ r.start.0 ∷ r.end.0 ∷ 0 ∷ 0 ∷ op_word e.op ∷ has_word e.raw ∷ raw_word e.raw ∷ 0 ∷ [] }
 {
-    let op = e.op;
-    let raw = e.raw;
     range_words(
         kind,
         r,
-        memory::causes::op_word(op),
-        memory::causes::has_word(raw),
-        memory::causes::raw_word(raw),
+        memory::causes::op_word(e.op),
+        memory::causes::has_word(e.raw),
+        memory::causes::raw_word(e.raw),
     )
 }
 
@@ -78,12 +76,12 @@ fn outcome_words(x: Outcome) -> [u64; 10]
 }
 
 // Words 10 to 12.
-fn buffer_words(b: Buffer) -> [u64; 3]
+fn buffer_words(b: Option<Held>) -> [u64; 3]
     ensures { result ≡ buffer_words b }
 {
     match b {
-        Buffer::Back { buffer, len } => [1, buffer, len],
-        Buffer::Lost => [0, 0, 0],
+        Some(Held { buffer, len }) => [1, buffer, len],
+        None => [0, 0, 0],
     }
 }
 
@@ -91,10 +89,8 @@ fn buffer_words(b: Buffer) -> [u64; 3]
 pub fn words_of(c: Completion) -> [u64; 16]
     ensures { result ≡ completion_words c }
 {
-    let outcome = c.outcome;
-    let buf = c.buf;
-    let x = outcome_words(outcome);
-    let b = buffer_words(buf);
+    let x = outcome_words(c.outcome);
+    let b = buffer_words(c.buf);
     [
         c.tag, x[0], x[1], x[2], x[3], x[4], x[5], x[6], x[7], x[8], b[0], b[1], b[2], x[9], 0, 0,
     ]

@@ -16,19 +16,15 @@ ghost use Rattle.std.specs.Prelude.{◌≡◌};
 ghost use Rattle.ring.specs.Queue.{Ring, ring_in, place_in, popped};
 
 // Whether the words hold a ring of that depth.
+#[tactic(auto, unfolding(crate::specs::Queue::ring_in))]
 pub fn ring(ready: &[u64], depth: u64) -> bool
     ensures { result ≡ ring_in depth ready.now }
 {
-    if depth == 0 {
-        return false;
-    }
-    if 4096 < depth {
-        return false;
-    }
-    1 + 16 * (depth as usize) <= ready.len()
+    0 < depth && depth <= 4096 && 1 + 16 * (depth as usize) <= ready.len()
 }
 
 // Where the words of the completion behind the first `count` start.
+#[tactic(auto, using(crate::proofs::Places::place_steps), unfolding(crate::specs::Queue::place_in))]
 pub fn place(ready: &[u64], depth: u64, count: u64) -> usize
     requires { Ring depth ready.now }
     ensures { result ≡ place_in depth count ready.now }
@@ -38,11 +34,11 @@ pub fn place(ready: &[u64], depth: u64, count: u64) -> usize
 }
 
 // The oldest is gone: the next is the oldest (Table::take). Nothing where the words hold no ring.
+#[tactic(auto, using(crate::proofs::Places::pop_steps))]
 pub fn pop(ready: &mut [u64], depth: u64)
     ensures { ready.new ≡ popped depth ready.old }
 {
     if ring(ready, depth) {
-        let i = ready[0];
-        ready[0] = (i % depth + 1) % depth;
+        ready[0] = (ready[0] % depth + 1) % depth;
     }
 }

@@ -2,7 +2,7 @@
 ghost use Rattle.std.specs.Prelude.{◌≡◌};
 ghost use Rattle.ring.specs.Queue.{Ring, oldest_in};
 
-use completion::{Buffer, Completion, Outcome};
+use completion::{Completion, Held, Outcome};
 use model::Opening;
 
 // The oldest completion; a blank one where the words hold no ring.
@@ -17,7 +17,7 @@ pub fn oldest(ready: &[u64], o: Opening) -> Completion
         Completion {
             tag: 0,
             outcome: Outcome::Read { len: 0 },
-            buf: Buffer::Lost,
+            buf: None,
         }
     }
 }

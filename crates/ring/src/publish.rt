@@ -5,18 +5,16 @@ ghost use Rattle.ring.specs.Queue.{placed, published};
 use completion::Completion;
 
 // Sixteen words, in their place.
+#[tactic(auto, unfolding(crate::specs::Queue::placed, model::specs::Memory::over))]
 fn put(ready: &mut [u64], at: usize, w: [u64; 16])
     requires { at + 16 ≤ length ready.old }
     ensures { ready.new ≡ placed at w ready.old }
 {
-    let mut i = 0;
-    while i < 16 {
-        ready[at + i] = w[i];
-        i += 1;
-    }
+    ready[at..at + 16].copy_from_slice(&w);
 }
 
 // A completion becomes ready, behind the `count` that are (Table::publish). Nothing where the words hold no ring.
+#[tactic(auto, using(crate::proofs::Places::publish_steps))]
 pub fn publish(ready: &mut [u64], depth: u64, count: u64, c: Completion)
     ensures { ready.new ≡ published depth count c ready.old }
 {

@@ -15,8 +15,8 @@ use Rattle.runner.specs.declared.turn.Running.{Running}
 use Rattle.runner.specs.Running.{Line, standing}
 
 -- the same, further in the input, stands where it stood
-pub same : (r now : Running) (store free ready owners pool : List ℕ) → (now.rows ≡ r.rows) × (now.counts ≡ r.counts) → standing now store free ready owners pool ≡ standing r store free ready owners pool
-same r now store free ready owners pool m = λ j. record { counts = m.1 j; lent = lent_of (m.0 j) store free ready owners pool }
+pub same : (r now : Running) (store free ready owners pool : List ℕ) → now.host ≡ r.host → standing now store free ready owners pool ≡ standing r store free ready owners pool
+same r now store free ready owners pool m = λ j. record { counts = (m j).counts; lent = lent_of (m j).rows store free ready owners pool }
 
 -- what is asked for is what the line's bytes say
 pub line_says : (bytes : List ℕ) (read said : Said) (named : Named) (asks : Asks) → read ≡ said_read bytes → said ≡ optrun_line read → named ≡ figures_named → asks ≡ asks_of said named 0

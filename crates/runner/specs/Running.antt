@@ -9,6 +9,7 @@ use Rattle.parser.specs.Said.{said_read, optrun_line}
 use Rattle.parser.specs.Asks.{asks_of}
 use Rattle.runner.specs.Runner.{figures_named, Answers as AnswersTo}
 use Rattle.input.specs.Input.{Turned as TurnedIn}
+use Rattle.memory.specs.declared.words.Words.{Words}
 use Rattle.runner.specs.declared.turn.Running.{Running}
 
 -- the counts, and what is lent
@@ -18,7 +19,10 @@ pub record Stood : Type 0 where
 
 -- where the table stands, in the program's memory
 abbrev pub standing : Running → List ℕ → List ℕ → List ℕ → List ℕ → List ℕ → Stood
-standing r store free ready owners pool = record { counts = r.counts; lent = lent_of r.rows store free ready owners pool }
+standing r store free ready owners pool = record { counts = r.host.counts; lent = lent_of r.host.rows store free ready owners pool }
+
+abbrev pub standing_in : Running → Words → List ℕ → Stood
+standing_in r w pool = standing r w.store.now w.free.now w.ready.now w.owners.now pool
 
 -- one line, of its bytes: "The program `optrun` has this opening and a flush count of 0." "Requests name the opening's volume, region and
 -- generation."

@@ -5,21 +5,19 @@
 pub mod turn;
 
 ghost use Rattle.std.specs.Prelude.{◌≡◌, ◌≤◌, take};
-ghost use Rattle.optable.specs.Called.{lent_of};
+ghost use Rattle.memory.specs.Words.{SameWords, lent_words};
 ghost use Rattle.runner.specs.Runner.{figures_named, Ran, Answers};
 ghost use Rattle.step.specs.Figures.{figures_opening};
 
-use completion::Reply;
+use memory::words::Words;
 use model::{Call, Counts, Opening, Row};
 use parser::requests::{Asks, Named};
-use submitter::host::CalledIn;
 
-// The rows, the counts and how many bytes are to be printed.
+// What the program holds by value: the counts and the rows.
 #[derive(Clone, Copy)]
-pub struct Answered {
-    pub rows: [Row; 64],
+pub struct Host {
     pub counts: Counts,
-    pub printed: usize,
+    pub rows: [Row; 64],
 }
 
 // The numbers of document 01's figures.
@@ -57,62 +55,37 @@ pub fn named() -> Named
 // The call is made, and its reply printed to the front of `out`.
 fn run(
     call: Call,
-    counts: Counts,
-    rows: [Row; 64],
-    store: &mut [u64],
-    free: &mut [u64],
-    ready: &mut [u64],
-    owners: &mut [u64],
+    host: &mut Host,
+    words: &mut Words,
     pool: &mut [u8],
     out: &mut [u8; 128],
-) -> Answered
-    ensures ran { Ran call counts
-        (lent_of rows store.old free.old ready.old owners.old pool.old) result.counts
-        (lent_of result.rows store.new free.new ready.new owners.new pool.new)
-        (take result.printed out.new) }
-    ensures bounded { result.printed ≤ 128 }
+) -> usize
+    ensures same { SameWords words.old words.new }
+    ensures ran { Ran call host.old.counts (lent_words host.old.rows words.old pool.old)
+        host.new.counts (lent_words host.new.rows words.new pool.new) (take result out.new) }
+    ensures bounded { result ≤ 128 }
 {
-    let called = submitter::host::call_in(call, counts, rows, store, free, ready, owners, pool);
-    let reply = called.reply;
-    let held = called.rows;
-    let counted = called.counts;
-    Answered {
-        rows: held,
-        counts: counted,
-        printed: printer::short::short_text(reply, out),
-    }
+    let reply = submitter::call(call, &mut host.counts, &mut host.rows, words, pool);
+    printer::short::short_text(reply, out)
 }
 
 // A line is answered: a comment by nothing, a call by its reply, any other line by `bad` and its number.
 pub fn answer(
     asks: Asks,
     number: u64,
-    counts: Counts,
-    rows: [Row; 64],
-    store: &mut [u64],
-    free: &mut [u64],
-    ready: &mut [u64],
-    owners: &mut [u64],
+    host: &mut Host,
+    words: &mut Words,
     pool: &mut [u8],
     out: &mut [u8; 128],
-) -> Answered
-    ensures answers { Answers asks number counts
-        (lent_of rows store.old free.old ready.old owners.old pool.old) result.counts
-        (lent_of result.rows store.new free.new ready.new owners.new pool.new)
-        (take result.printed out.new) }
-    ensures bounded { result.printed ≤ 128 }
+) -> usize
+    ensures same { SameWords words.old words.new }
+    ensures answers { Answers asks number host.old.counts (lent_words host.old.rows words.old pool.old)
+        host.new.counts (lent_words host.new.rows words.new pool.new) (take result out.new) }
+    ensures bounded { result ≤ 128 }
 {
     match asks {
-        Asks::Nothing => Answered {
-            rows,
-            counts,
-            printed: 0,
-        },
-        Asks::Other => Answered {
-            rows,
-            counts,
-            printed: printer::lines::bad_text(number, out),
-        },
-        Asks::Call(call) => run(call, counts, rows, store, free, ready, owners, pool, out),
+        Asks::Nothing => 0,
+        Asks::Other => printer::lines::bad_text(number, out),
+        Asks::Call(call) => run(call, host, words, pool, out),
     }
 }

@@ -1,22 +1,21 @@
 // optrun, as far as its input was read and answered: a line read from its bytes and answered by the table of document 01's figures (runner), and a
 // turn of the program, which goes on in the input. The program itself lends the memory and repeats the turn.
 ghost use Rattle.std.specs.Prelude.{◌≡◌, List, ℕ, ◌≤◌, take};
-ghost use Rattle.optable.specs.Called.{lent_of};
+ghost use Rattle.memory.specs.Words.{SameWords, lent_words};
 ghost use Rattle.fields.specs.Trace.{Kept};
 ghost use Rattle.step.specs.Figures.{figures_plan};
-ghost use Rattle.runner.specs.Running.{Line, standing, Answers, Turned};
+ghost use Rattle.runner.specs.Running.{Line, Answers, Turned, standing_in};
 
-use crate::Answered;
+use crate::Host;
 use fields::reader::Reader;
 use input::Input;
-use model::{Counts, Row};
+use memory::words::Words;
 use std::io::{Stdin, Stdout};
 
-// The table's rows and counts, and where the input stands.
+// What is held by value, and where the input stands.
 #[derive(Clone, Copy)]
 pub struct Running {
-    pub rows: [Row; 64],
-    pub counts: Counts,
+    pub host: Host,
     pub from: Input,
 }
 
@@ -41,31 +40,20 @@ fn line(
     r: Reader,
     text: &[u8; 4096],
     number: u64,
-    counts: Counts,
-    rows: [Row; 64],
-    store: &mut [u64],
-    free: &mut [u64],
-    ready: &mut [u64],
-    owners: &mut [u64],
+    host: &mut Host,
+    words: &mut Words,
     pool: &mut [u8],
     out: &mut [u8; 128],
-) -> Answered
-    ensures by_index { (bytes : List ℕ) → Kept r text.now bytes → Line bytes number counts
-        (lent_of rows store.old free.old ready.old owners.old pool.old) result.counts
-        (lent_of result.rows store.new free.new ready.new owners.new pool.new)
-        (take result.printed out.new) }
-    ensures bounded { result.printed ≤ 128 }
+) -> usize
+    ensures same { SameWords words.old words.new }
+    ensures by_index { (bytes : List ℕ) → Kept r text.now bytes → Line bytes number
+        host.old.counts (lent_words host.old.rows words.old pool.old)
+        host.new.counts (lent_words host.new.rows words.new pool.new) (take result out.new) }
+    ensures bounded { result ≤ 128 }
 {
     let said = parser::lines::optrun_line(parser::lines::finish(r, text));
     let asks = parser::requests::asked(said, crate::named(), 0);
-    crate::answer(
-        asks, number, counts, rows, store, free, ready, owners, pool, out,
-    )
-}
-
-// Prints the front of a buffer that holds any line.
-fn print_line(stdout: Stdout, out: &[u8; 128], n: usize) {
-    input::print(stdout, out, n)
+    crate::answer(asks, number, host, words, pool, out)
 }
 
 // A line is answered, and the answer printed.
@@ -73,51 +61,34 @@ fn answer(
     stdout: Stdout,
     r: Running,
     text: &[u8; 4096],
-    store: &mut [u64],
-    free: &mut [u64],
-    ready: &mut [u64],
-    owners: &mut [u64],
+    words: &mut Words,
     pool: &mut [u8],
 ) -> Running
-    ensures { Answers r result text.now
-        (standing r store.old free.old ready.old owners.old pool.old)
-        (standing result store.new free.new ready.new owners.new pool.new) }
+    ensures same { SameWords words.old words.new }
+    ensures answers { Answers r result text.now (standing_in r words.old pool.old)
+        (standing_in result words.new pool.new) }
 {
     let mut out = [0u8; 128];
+    let mut host = r.host;
     let from = r.from;
-    let rows = r.rows;
-    let counts = r.counts;
-    let reader = from.reader;
-    let a = line(
-        reader,
+    let n = line(
+        from.reader,
         text,
         from.number,
-        counts,
-        rows,
-        store,
-        free,
-        ready,
-        owners,
+        &mut host,
+        words,
         pool,
         &mut out,
     );
-    print_line(stdout, &out, a.printed);
-    let held = a.rows;
-    let counted = a.counts;
-    Running {
-        rows: held,
-        counts: counted,
-        from,
-    }
+    input::print(stdout, &out, n);
+    Running { host, from }
 }
 
 // The same, further in the input.
 fn moved(r: Running, from: Input) -> Running
-    ensures { (result.from ≡ from) × ((result.rows ≡ r.rows) × (result.counts ≡ r.counts)) }
+    ensures { (result.from ≡ from) × (result.host ≡ r.host) }
 {
-    let rows = r.rows;
-    let counts = r.counts;
-    Running { rows, counts, from }
+    Running { from, ..r }
 }
 
 // Goes on in the input, and answers the line if it is complete.
@@ -127,21 +98,17 @@ pub fn turn(
     r: Running,
     text: &mut [u8; 4096],
     chunk: &mut [u8; 4096],
-    store: &mut [u64],
-    free: &mut [u64],
-    ready: &mut [u64],
-    owners: &mut [u64],
+    words: &mut Words,
     pool: &mut [u8],
 ) -> Running
-    ensures { Turned r result text.old text.new chunk.old chunk.new
-        (standing r store.old free.old ready.old owners.old pool.old)
-        (standing result store.new free.new ready.new owners.new pool.new) }
+    ensures same { SameWords words.old words.new }
+    ensures turned { Turned r result text.old text.new chunk.old chunk.new
+        (standing_in r words.old pool.old) (standing_in result words.new pool.new) }
 {
-    let was = r.from;
-    let from = input::next(stdin, was, text, chunk);
+    let from = input::next(stdin, r.from, text, chunk);
     let now = moved(r, from);
     if from.whole {
-        return answer(stdout, now, text, store, free, ready, owners, pool);
+        return answer(stdout, now, text, words, pool);
     }
     now
 }

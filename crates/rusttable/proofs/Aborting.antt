@@ -12,7 +12,7 @@ use borrow.Author.Tests.{ltb-false, eq-eqb, ne_eqb}
 use lib.ListN.{length, get_elem?, set}
 use Rattle.layout.specs.Pick.{pick}
 use Rattle.layout.proofs.Tests.{not_both}
-use Rattle.completion.specs.declared.Buffer.{Buffer}
+use Rattle.completion.specs.Buffers.{Buffer}
 use Rattle.completion.specs.declared.Reply.TheVariants.{Rejected}
 use Rattle.completion.specs.Numbers.{number}
 use Rattle.model.specs.declared.Lengths.{Lengths}

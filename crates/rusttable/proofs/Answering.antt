@@ -18,11 +18,10 @@ use Rattle.completion.specs.Numbers.{number}
 use Rattle.model.specs.declared.Lengths.{Lengths}
 use Rattle.model.specs.declared.Kind.{Kind}
 use Rattle.model.specs.declared.Request.{Request}
-use Rattle.model.specs.declared.Asked.{Asked}
-use Rattle.model.specs.declared.Asked.TheVariants.{Yes, No}
+use Rattle.std.specs.declared.result.Result.TheVariants.{Ok as Yes, Err as No}
 use Rattle.model.specs.declared.Call.TheVariants.{Answer as Answers}
 use Rattle.model.specs.State.{Region, State}
-use Rattle.step.specs.Questions.{region_at, held_at, first_no}
+use Rattle.step.specs.Questions.{region_at, held_at, first_no, Asked}
 use Rattle.step.specs.Rules.{first_of, range_of, op_of, error_of}
 use Rattle.step.specs.Step.{begun, queue_tag, top_of, row_at, accepted, plan_of, verdict_of, submitted, step}
 use Rattle.step.specs.Sound.{Sound}
@@ -87,7 +86,7 @@ module _ (s : State) (q : Request) (n : ℕ) (k : Kind) (w : Bool) (error : Opti
     given = buf_of s q.buffer q.length
 
     unfoldable pub Answered : Asked → Type 0
-    Answered Yes = Passed s q × ((queue : Submitted) → rust queue ≡ submits queue)
+    Answered (Yes _) = Passed s q × ((queue : Submitted) → rust queue ≡ submits queue)
     Answered (No f) = compared (turnedAway f) ≡ true → (e : Error) × (error_as f ≡ some e) × ((queue : Submitted) → rust queue ≡ rejected (submitter_of s n) given e)
 
     pub answered_yes : Passed s q → ((queue : Submitted) → rust queue ≡ submits queue) → Answered (first_no [])
@@ -105,7 +104,7 @@ module _ (s : State) (q : Request) (n : ℕ) (k : Kind) (w : Bool) (error : Opti
     module _ (i : Sound s) (starts : first_of k ≡ q.offset) where
       pub taken_by : (a : Asked) → Answered a → compared (settled_as s k q a).1 ≡ true → Submits n w given (rust Taken) (settled_as s k q a)
       unfolding Answered
-      taken_by Yes answer h = rw (answer.1 Taken) (taken_is s i q answer.0 k starts n w error)
+      taken_by (Yes _) answer h = rw (answer.1 Taken) (taken_is s i q answer.0 k starts n w error)
       taken_by (No f) answer h = let x = answer (no_reply_of s q k f h) in turned s q k n w given f x.0 (rust Taken) x.1 (x.2 Taken)
 
       pub refused_by_lem : (Passed s q → (raw : Option RawError) → error raw ≡ refused_error (range_of (plan_of region) k) (op_of k) (error_of (refusal_of raw)))
@@ -114,7 +113,7 @@ module _ (s : State) (q : Request) (n : ℕ) (k : Kind) (w : Bool) (error : Opti
           → compared (step (leave (settled_as s k q a).0 pool) l (Answers t (refusal_of raw) back m)).1 ≡ true
           → Submits n w given (rust (Refused raw (returned back (in_flight (leave (settled_as s k q a).0 pool) t)))) (step (leave (settled_as s k q a).0 pool) l (Answers t (refusal_of raw) back m))
       unfolding Answered submitted verdict_of
-      refused_by_lem same_error l raw back m Yes answer sound t o c b e pool may h =
+      refused_by_lem same_error l raw back m (Yes _) answer sound t o c b e pool may h =
           let same : t ≡ queue_tag (top_of s.free) (row_at s (top_of s.free)).generation = cc in
           rw (same, answer.1) (refused_is s i q answer.0 k starts n w l sound pool may raw back m (rw same at h) error (same_error answer.0 raw))
       refused_by_lem same_error l raw back m (No f) answer sound t o c b e pool may h = let z : ◌≡◌ {A = ℕ} 0 1 = cc in absurd (omega arith)

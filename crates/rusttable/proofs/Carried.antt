@@ -5,7 +5,8 @@ use mathlib.Core.List.{List}
 use mathlib.Core.Option.{some}
 use Prim.Native.Nat.{ℕ, ◌-◌}
 use lib.ListN.{length}
-use Rattle.domain.specs.declared.Poisoned.{Poisoned}
+use Rattle.std.specs.declared.option.Option.{Option}
+use Rattle.domain.specs.declared.FirstCause.{FirstCause}
 use Rattle.platform.specs.declared.Answer.{Answer}
 use Rattle.model.specs.declared.Opening.{Opening}
 use Rattle.model.specs.declared.Kind.{Kind}
@@ -43,7 +44,7 @@ Ended k (awaits a bytes) = Awaited k a
 Ended k (ends ending) = Unit {0}
 Ended k (rejected e b bytes) = ⊥
 
-module _ (o : Opening) (g : Plan) (forced : Bool) (first : Poisoned) (r : Row) (sp : Split) (bytes : List ℕ) (answer : Answer) (back : Bool) (n : ℕ) where
+module _ (o : Opening) (g : Plan) (forced : Bool) (first : Option FirstCause) (r : Row) (sp : Split) (bytes : List ℕ) (answer : Answer) (back : Bool) (n : ℕ) where
   pub last_ended : (k : Kind) → Ended k (last_piece o g forced first r k sp bytes answer back n)
   unfolding last_piece written_as Ended Awaited ticket_of first_of last_of
   last_ended (Reads a b) = tt

@@ -14,16 +14,15 @@ use Rattle.regionmap.specs.declared.Position.{Position}
 use Rattle.iobuf.specs.Turn.{turned}
 use Rattle.iobuf.proofs.Laws.{turn_laws}
 use Rattle.domain.specs.declared.Op.TheVariants.{Write as writeOp}
-use Rattle.domain.specs.declared.OsError.{OsError}
+use Rattle.std.specs.declared.option.Option.{Option as StdOption}
+use Rattle.std.specs.declared.option.Option.TheVariants.{None, Some}
 use Rattle.domain.specs.declared.FirstCause.{FirstCause}
-use Rattle.domain.specs.declared.Poisoned.{Poisoned as Poison}
-use Rattle.domain.specs.declared.Poisoned.TheVariants.{Never, First}
 use Rattle.platform.specs.declared.Answer.{Answer}
 use Rattle.platform.specs.declared.Answer.TheVariants.{Count, Error as Failed, Refused, RefusedWith}
 use Rattle.completion.specs.declared.WriteTicket.{WriteTicket}
 use Rattle.completion.specs.declared.Outcome.TheVariants.{Written as endsWritten, Unknown as endsUnknown}
-use Rattle.completion.specs.declared.Buffer.{Buffer}
-use Rattle.completion.specs.declared.Buffer.TheVariants.{Back, Lost}
+use Rattle.completion.specs.Buffers.{Buffer}
+use Rattle.std.specs.declared.option.Option.TheVariants.{Some as Back, None as Lost}
 use Rattle.model.specs.declared.Kind.{Kind}
 use Rattle.model.specs.declared.Kind.TheVariants.{Page, Read as Reads}
 use Rattle.model.specs.declared.Split.{Split}
@@ -183,21 +182,21 @@ module _ (s : State) (n : ℕ) (row : Row) (T : Table) (t : ℕ) where
       flush_kept = let long : sp.total ≡ b.0 - a.0 = omega arith in rw long refl
 
       -- poisoned, or with a receipt
-      receipt_given : (p : Poison) → hand_back x t (some here) (receipted (store_of s n) (record { ticket = its_ticket; receipt = none }) p) ≡ carried (Page a b) (ends (record { outcome = unflushed s.settings p its_ticket; buffer = Back row.buffer sp.total; bytes = bytes; cause = none }))
+      receipt_given : (p : StdOption FirstCause) → hand_back x t (some here) (receipted (store_of s n) (record { ticket = its_ticket; receipt = none }) p) ≡ carried (Page a b) (ends (record { outcome = unflushed s.settings p its_ticket; buffer = Back (record { buffer = row.buffer; len = sp.total }); bytes = bytes; cause = none }))
       unfolding hand_back receipted unflushed shortened read_len given carried outcome_of buf_as with_table poison_with store_of durable_receipt
-      receipt_given Never = refl
-      receipt_given (First cause) = refl
+      receipt_given None = refl
+      receipt_given (Some cause) = refl
 
-      plain : hand_back x t (some here) wrote ≡ carried (Page a b) (ends (record { outcome = endsWritten its_ticket; buffer = Back row.buffer sp.total; bytes = bytes; cause = none }))
+      plain : hand_back x t (some here) wrote ≡ carried (Page a b) (ends (record { outcome = endsWritten its_ticket; buffer = Back (record { buffer = row.buffer; len = sp.total }); bytes = bytes; cause = none }))
       unfolding hand_back shortened read_len given carried outcome_of buf_as with_table poison_with store_of
       plain = refl
 
-      written_ends : concluded x t (some here) (operation_of row (Page a b)) wrote ≡ carried (Page a b) (written_as s.settings g.forced s.poison row.durable its_ticket (Back row.buffer sp.total) bytes)
+      written_ends : concluded x t (some here) (operation_of row (Page a b)) wrote ≡ carried (Page a b) (written_as s.settings g.forced s.poison row.durable its_ticket (Back (record { buffer = row.buffer; len = sp.total })) bytes)
       unfolding concluded written_as given written done_write flushes region region_at store_of
       written_ends = two_picks row.durable (s.settings.flush || g.forced) (carried (Page a b)) _ _ _ flush_kept (receipt_given s.poison) plain
 
     -- not written: the store is poisoned
-    abbrev failed : OsError → Submitter
+    abbrev failed : StdOption ℕ → Submitter
     failed err = with_store x (unknown (store_of s n) writeOp err (ctx_range g a b)).0
 
     unwritten_ends : (buf : Buffer) (bytes : List ℕ) (answer : Answer)
@@ -238,7 +237,7 @@ module _ (s : State) (n : ℕ) (row : Row) (T : Table) (t : ℕ) where
       unfolding pick buffer_as buf_as turned_back
       by_written answer true true e = written_ends sp (turned sp.total (left_of sp) bytes) fits
       by_written answer false true e = absurd (not_both e (lost_unwritten sp answer))
-      by_written answer true false e = unwritten_ends (Back row.buffer sp.total) (turned sp.total (left_of sp) bytes) answer
+      by_written answer true false e = unwritten_ends (Back (record { buffer = row.buffer; len = sp.total })) (turned sp.total (left_of sp) bytes) answer
       by_written answer false false e = unwritten_ends Lost bytes answer
 
       pub write_ends : (answer : Answer) (back : Bool) → conclude x t (back_in_order back sp bytes) (result_for sp answer) ≡ carried (Page a b) (fate (Page a b) sp bytes answer back)

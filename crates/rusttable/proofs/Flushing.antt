@@ -7,7 +7,7 @@ use Rattle.layout.proofs.Tests.{not_both}
 use Rattle.platform.specs.declared.Flushed.{Flushed as FlushResult}
 use Rattle.platform.specs.declared.Flushed.TheVariants.{Need, Unknown as unsure, Poisoned as failedBy}
 use Rattle.completion.specs.declared.WriteTicket.{WriteTicket}
-use Rattle.completion.specs.declared.Buffer.TheVariants.{Back}
+use Rattle.std.specs.declared.option.Option.TheVariants.{Some as Back}
 use Rattle.completion.specs.declared.Reply.TheVariants.{Done as isDone}
 use Rattle.completion.specs.Numbers.{number}
 use Rattle.model.specs.declared.Lengths.{Lengths}
@@ -72,7 +72,7 @@ module _ (s : State) (i : Sound s) (t : ℕ) (found : names (row_at s (row_of t)
         flushed_at (submitter_of s n) t (row_as s row) operation (has_live s i t found operation there) held refl (flushed_of result)
         ∙ rw (same_outcome s n held result)
         (ap (with_table (submitter_of s n))
-        (ends_released s i t found operation there (bytes_at s row.buffer) (bytes_length s i row.buffer (i.in_table (row_of t) below live).buffer) refl (flush_outcome s.settings tk result) (Back row.buffer (tk.end.0 - tk.start.0)) refl none))
+        (ends_released s i t found operation there (bytes_at s row.buffer) (bytes_length s i row.buffer (i.in_table (row_of t) below live).buffer) refl (flush_outcome s.settings tk result) (Back (record { buffer = row.buffer; len = (tk.end.0 - tk.start.0) })) refl none))
 
   awaited : (a : Awaits) → row.awaits ≡ a → compared (settled s t row (fate a)).1 ≡ true
       → (flushed (submitter_of s n) t (flushed_of result) ≡ submitter_of (settled s t row (fate a)).0 n) × ((settled s t row (fate a)).1 ≡ isDone t)

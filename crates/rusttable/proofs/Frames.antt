@@ -10,8 +10,8 @@ use lib.ListN.{length, get_or, set}
 use Rattle.iobuf.specs.TurnLaws.{Fits}
 use Rattle.iobuf.proofs.Laws.{turn_laws}
 use Rattle.domain.specs.declared.FirstCause.{FirstCause}
-use Rattle.completion.specs.declared.Buffer.{Buffer}
-use Rattle.completion.specs.declared.Buffer.TheVariants.{Back, Lost}
+use Rattle.completion.specs.Buffers.{Buffer}
+use Rattle.std.specs.declared.option.Option.TheVariants.{Some as Back, None as Lost}
 use Rattle.completion.specs.declared.Completion.{Completion}
 use Rattle.model.specs.declared.Awaits.{Awaits}
 use Rattle.model.specs.declared.Awaits.TheVariants.{Nothing, Piece, Flush}
@@ -44,7 +44,7 @@ module _ (s s' : State) (same : s'.regions ≡ s.regions) where
 module _ (s s' : State) (b : ℕ) (others : (k : ℕ) → k ≢ b → bytes_at s' k ≡ bytes_at s k) where
   same_back : (x : Buffer) → holds b x ≡ 0 → back_of s' x ≡ back_of s x
   unfolding back_of buf_of
-  same_back (Back k n) z = rw (others k (λ e. omega (arith, ap (λ (m : ℕ). holds b (Back m n)) e, back_holds_own b n))) refl
+  same_back (Back h) z = rw (others h.buffer (λ e. omega (arith, ap (λ (m : ℕ). holds b (Back (record { buffer = m; len = h.len }))) e, back_holds_own b h.len))) refl
   same_back Lost z = refl
 
   pub same_completions : (cs : List Completion) → ready_hold b cs ≡ 0 → map (completion_as s') cs ≡ map (completion_as s) cs

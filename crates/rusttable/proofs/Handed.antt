@@ -8,8 +8,8 @@ use Prim.Native.Nat.{ℕ, ◌+◌, ◌-◌, ◌%◌, ◌^◌}
 use lib.ListN.{length, set}
 use Rattle.domain.specs.declared.FirstCause.{FirstCause}
 use Rattle.completion.specs.declared.Outcome.{Outcome}
-use Rattle.completion.specs.declared.Buffer.{Buffer}
-use Rattle.completion.specs.declared.Buffer.TheVariants.{Back, Lost}
+use Rattle.completion.specs.Buffers.{Buffer}
+use Rattle.std.specs.declared.option.Option.TheVariants.{Some as Back, None as Lost}
 use Rattle.model.specs.declared.Awaits.{Awaits}
 use Rattle.model.specs.declared.Row.{Row}
 use Rattle.model.specs.State.{Owner.table, State}
@@ -25,7 +25,7 @@ use Rattle.rusttable.proofs.Rows.{put_is, released, has_live}
 
 -- a buffer with its bytes
 unfoldable pub buf_as : Buffer → List ℕ → Option IoBuf
-buf_as (Back b n) bytes = some (record { number = b; len = n; bytes = bytes })
+buf_as (Back h) bytes = some (record { number = h.buffer; len = h.len; bytes = bytes })
 buf_as Lost bytes = none
 
 module _ (s : State) (i : Sound s) (t : ℕ) (found : names (row_at s (row_of t)) t ≡ true) where
@@ -40,7 +40,7 @@ module _ (s : State) (i : Sound s) (t : ℕ) (found : names (row_at s (row_of t)
 
       same_back : (x : Buffer) → Own row.buffer x → buf_as x bytes ≡ back_of after x
       unfolding Own buf_as back_of buf_of
-      same_back (Back k n) at =
+      same_back (Back h) at =
           let filled = own_freeing s i (row_of t) (named_below s i t found) (named_live s i t found) bytes long (raised row.generation) (completion_of row o b ∷ []) (kept_by table b) cause in
           rw (at, filled) refl
       same_back Lost at = refl

@@ -5,9 +5,9 @@ use mathlib.Core.Option.{some}
 use Prim.Native.Nat.{ℕ, ◌<◌}
 use native.Mathlib.Omega.{arith}
 use borrow.Author.Tests.{lt-ltb}
-use Rattle.domain.specs.declared.OsError.{OsError}
+use Rattle.std.specs.declared.option.Option.{Option}
 use Rattle.platform.specs.declared.Answer.{Answer}
-use Rattle.completion.specs.declared.Buffer.{Buffer}
+use Rattle.completion.specs.Buffers.{Buffer}
 use Rattle.completion.specs.declared.Reply.{Reply}
 use Rattle.model.specs.declared.Kind.{Kind}
 use Rattle.model.specs.declared.Lengths.{Lengths}
@@ -31,7 +31,7 @@ use Rattle.rusttable.proofs.Within.{called_step, found_under}
 use Rattle.rusttable.proofs.Pieces.{row_going, some_bytes}
 
 -- a rejection issues none
-pub none_issued : (g : Plan) (a : Awaits) (x : OsError) (b : Buffer) (u : ℕ) → tag_given (rejection g a x b) ≡ some u → ⊥
+pub none_issued : (g : Plan) (a : Awaits) (x : Option ℕ) (b : Buffer) (u : ℕ) → tag_given (rejection g a x b) ≡ some u → ⊥
 unfolding tag_given rejection
 none_issued g Nothing x b u e = clash (cc)
 none_issued g (Piece k sp) x b u e = clash (cc)

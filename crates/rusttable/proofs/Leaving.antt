@@ -11,11 +11,12 @@ use Rattle.layout.proofs.Tests.{not_both}
 use Rattle.regionmap.specs.Map.{map_run_end, piece_size}
 use Rattle.regionmap.proofs.Laws.{map_laws}
 use Rattle.iobuf.specs.Turn.{stretch}
-use Rattle.domain.specs.declared.Poisoned.{Poisoned}
+use Rattle.std.specs.declared.option.Option.{Option}
+use Rattle.domain.specs.declared.FirstCause.{FirstCause}
 use Rattle.domain.specs.Domain.{first_kept}
 use Rattle.completion.specs.declared.WriteTicket.{WriteTicket}
-use Rattle.completion.specs.declared.Buffer.{Buffer}
-use Rattle.completion.specs.declared.Buffer.TheVariants.{Back, Lost}
+use Rattle.completion.specs.Buffers.{Buffer}
+use Rattle.std.specs.declared.option.Option.TheVariants.{Some as Back, None as Lost}
 use Rattle.completion.specs.declared.Completion.{Completion}
 use Rattle.completion.specs.declared.Reply.{Reply}
 use Rattle.model.specs.declared.Opening.{Opening}
@@ -75,7 +76,7 @@ module _ (s s' : State) (plans : (h : ℕ) → plan_of (region_at s' h) ≡ plan
 
   same_back : ((b : ℕ) → bytes_at s' b ≡ bytes_at s b) → (x : Buffer) → back_of s' x ≡ back_of s x
   unfolding back_of buf_of
-  same_back bytes (Back b n) = rw (bytes b) refl
+  same_back bytes (Back h) = rw (bytes h.buffer) refl
   same_back bytes Lost = refl
 
   same_completion : ((b : ℕ) → bytes_at s' b ≡ bytes_at s b) → (c : Completion) → completion_as s' c ≡ completion_as s c
@@ -103,7 +104,7 @@ module _ (s : State) (h : ℕ) (g : Region) (e : plan_of g ≡ plan_of (region_a
   unfolding marked
   marked_table = by_pick (ltb h s.settings.regions) (λ (z : State × Reply). table_of z.0 ≡ table_of s) (λ known. set_table) (λ unknown. refl)
 
-module _ (s : State) (p : Poisoned) where
+module _ (s : State) (p : Option FirstCause) where
   abbrev poisoned_state : State
   poisoned_state = with_poison s p
 
@@ -146,7 +147,7 @@ freed_awaits = refl
 module _ (s s' : State) where
   ready_back : (x : Buffer) → ((b : ℕ) → 0 < holds b x → bytes_at s' b ≡ bytes_at s b) → back_of s' x ≡ back_of s x
   unfolding back_of buf_of
-  ready_back (Back b n) h = rw (h b (let one = back_holds_own b n in omega arith)) refl
+  ready_back (Back k) h = rw (h k.buffer (let one = back_holds_own k.buffer k.len in omega arith)) refl
   ready_back Lost h = refl
 
   ready_alike : (cs : List Completion) → ((b : ℕ) → 0 < ready_hold b cs → bytes_at s' b ≡ bytes_at s b) → map (completion_as s') cs ≡ map (completion_as s) cs

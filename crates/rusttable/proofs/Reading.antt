@@ -19,11 +19,10 @@ use Rattle.model.specs.declared.Kind.{Kind}
 use Rattle.model.specs.declared.Kind.TheVariants.{Read as Reads}
 use Rattle.model.specs.declared.Gate.TheVariants.{Open, Recycled, Released}
 use Rattle.model.specs.declared.Request.{Request}
-use Rattle.model.specs.declared.Asked.{Asked}
-use Rattle.model.specs.declared.Asked.TheVariants.{No}
+use Rattle.std.specs.declared.result.Result.TheVariants.{Err as No}
 use Rattle.model.specs.declared.Call.TheVariants.{ReadPage, Answer as Answers}
 use Rattle.model.specs.State.{Region, State}
-use Rattle.step.specs.Questions.{range_from, handle_names_region, buffer_in_pool, host_holds_buffer, room_in_table, lifetime_left, volume_and_region_match, generation_matches, length_above0, aligned, within_data, region_at, first_no, read_questions}
+use Rattle.step.specs.Questions.{range_from, handle_names_region, buffer_in_pool, host_holds_buffer, room_in_table, lifetime_left, volume_and_region_match, generation_matches, length_above0, aligned, within_data, region_at, first_no, read_questions, Asked}
 use Rattle.step.specs.Rules.{first_of, last_of, range_of, op_of, error_of}
 use Rattle.step.specs.Step.{start_of, end_of, durable_as, plan_of, read_verdict, called, step}
 use Rattle.step.specs.Sound.{Sound}

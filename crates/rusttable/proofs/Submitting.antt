@@ -15,11 +15,10 @@ use Rattle.model.specs.declared.Split.{Split}
 use Rattle.model.specs.declared.Awaits.TheVariants.{Piece as AwaitsPiece}
 use Rattle.model.specs.declared.Row.{Row}
 use Rattle.model.specs.declared.Request.{Request}
-use Rattle.model.specs.declared.Asked.{Asked}
-use Rattle.model.specs.declared.Asked.TheVariants.{Yes}
+use Rattle.std.specs.declared.result.Result.TheVariants.{Ok as Yes}
 use Rattle.model.specs.declared.Call.TheVariants.{Answer as Answers}
 use Rattle.model.specs.State.{Region, Owner.host, State}
-use Rattle.step.specs.Questions.{region_at}
+use Rattle.step.specs.Questions.{region_at, Asked}
 use Rattle.step.specs.Rules.{op_of, first_of, range_of, piece_of, piece_length, error_of, buffer_as, Input.answered as fedAnswer}
 use Rattle.step.specs.Step.{kept_by, poison_with, freeing, begun, queue_tag, top_of, row_at, row_of, claimed_by, accepted, bytes_at, plan_of, verdict_of, submitted, settled, fate_of, called, step}
 use Rattle.step.specs.Sound.{Sound}
@@ -67,7 +66,7 @@ module _ (s : State) (i : Sound s) (q : Request) (p : Passed s q) (k : Kind) (st
   req = req_as w (place g.map q.offset.0) (buf_of s q.buffer count)
 
   -- the queue takes it
-  pub taken_is : (error : Option RawError → Error) → Submits n w buf (issued_with error (submit (submitter_of s n) (table_of after) top tag req split Taken)) (settled_as s k q Yes)
+  pub taken_is : (error : Option RawError → Error) → Submits n w buf (issued_with error (submit (submitter_of s n) (table_of after) top tag req split Taken)) (settled_as s k q (Yes tt))
   unfolding issued_with told_as submit with_table submitter_of store_of accepted submitted verdict_of issued_as buf_of bytes_at piece_of piece_size
   taken_is error = record { state = refl; reply = rw (add-zero, sub-zero) refl }
 

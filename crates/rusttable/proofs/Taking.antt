@@ -4,8 +4,8 @@ use mathlib.Core.Bool.{true}
 use mathlib.Core.List.{List, [], ◌∷◌, map}
 use mathlib.Core.Option.{some}
 use Prim.Native.Nat.{ℕ}
-use Rattle.completion.specs.declared.Buffer.{Buffer}
-use Rattle.completion.specs.declared.Buffer.TheVariants.{Back, Lost}
+use Rattle.completion.specs.Buffers.{Buffer}
+use Rattle.std.specs.declared.option.Option.TheVariants.{Some as Back, None as Lost}
 use Rattle.completion.specs.declared.Completion.{Completion}
 use Rattle.model.specs.declared.Lengths.{Lengths}
 use Rattle.model.specs.declared.Row.{Row}
@@ -24,7 +24,7 @@ use Rattle.rusttable.proofs.Within.{called_step}
 module _ (s s' : State) (regions : s'.regions ≡ s.regions) (bytes : (b : ℕ) → bytes_at s' b ≡ bytes_at s b) where
   back_alike : (x : Buffer) → back_of s' x ≡ back_of s x
   unfolding back_of buf_of
-  back_alike (Back b n) = rw (bytes b) refl
+  back_alike (Back h) = rw (bytes h.buffer) refl
   back_alike Lost = refl
 
   pub completion_alike : (c : Completion) → completion_as s' c ≡ completion_as s c

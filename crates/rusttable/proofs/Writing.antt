@@ -14,7 +14,7 @@ use Rattle.layout.proofs.Tests.{not_both}
 use Rattle.regionmap.specs.declared.Position.{Position}
 use Rattle.regionmap.specs.declared.Offset.{Offset}
 use Rattle.domain.specs.declared.FirstCause.{FirstCause}
-use Rattle.domain.specs.declared.Poisoned.TheVariants.{Never, First}
+use Rattle.std.specs.declared.option.Option.TheVariants.{None, Some}
 use Rattle.completion.specs.declared.Refusal.{Refusal}
 use Rattle.completion.specs.declared.Reply.TheVariants.{Piece as piece}
 use Rattle.completion.specs.Numbers.{number}
@@ -24,11 +24,10 @@ use Rattle.model.specs.declared.Kind.TheVariants.{Page}
 use Rattle.model.specs.declared.Gate.{Gate}
 use Rattle.model.specs.declared.Gate.TheVariants.{Open, Recycled, Released}
 use Rattle.model.specs.declared.Request.{Request}
-use Rattle.model.specs.declared.Asked.{Asked}
-use Rattle.model.specs.declared.Asked.TheVariants.{No}
+use Rattle.std.specs.declared.result.Result.TheVariants.{Err as No}
 use Rattle.model.specs.declared.Call.TheVariants.{Write, Answer as Answers}
 use Rattle.model.specs.State.{Region, State}
-use Rattle.step.specs.Questions.{handle_names_region, buffer_in_pool, host_holds_buffer, room_in_table, lifetime_left, store_writable, region_writable, volume_and_region_match, generation_matches, length_above0, aligned, within_data, region_at, first_no, write_questions}
+use Rattle.step.specs.Questions.{handle_names_region, buffer_in_pool, host_holds_buffer, room_in_table, lifetime_left, store_writable, region_writable, volume_and_region_match, generation_matches, length_above0, aligned, within_data, region_at, first_no, write_questions, Asked}
 use Rattle.step.specs.Rules.{first_of, last_of, range_of, op_of, error_of}
 use Rattle.step.specs.Step.{start_of, end_of, durable_as, plan_of, write_verdict, called, step}
 use Rattle.step.specs.Sound.{Sound}
@@ -100,11 +99,11 @@ module _ (s : State) (i : Sound s) (q : Request) (n : ℕ) where
   unfolding ready_for ready store_of tried pick not_written
   ready_store e = rw e refl
 
-  ready_poisoned : s.settings.read_only ≡ false → (cause : FirstCause) → s.poison ≡ First cause → ready_for (store_of s n) region ≡ Err (Poisoned cause)
+  ready_poisoned : s.settings.read_only ≡ false → (cause : FirstCause) → s.poison ≡ Some cause → ready_for (store_of s n) region ≡ Err (Poisoned cause)
   unfolding ready_for ready store_of tried pick unpoisoned
   ready_poisoned e cause p = rw (e, p) refl
 
-  ready_region : s.settings.read_only ≡ false → s.poison ≡ Never → (v : Bool) → region.read_only ≡ v → ready_for (store_of s n) region ≡ pick v (Err (NotWritten ReadOnly (ctx region))) (Ok tt)
+  ready_region : s.settings.read_only ≡ false → s.poison ≡ None → (v : Bool) → region.read_only ≡ v → ready_for (store_of s n) region ≡ pick v (Err (NotWritten ReadOnly (ctx region))) (Ok tt)
   unfolding ready_for ready store_of tried pick unpoisoned not_written region_at ctx
   ready_region e p v r = rw (e, p, r) refl
 

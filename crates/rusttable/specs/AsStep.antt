@@ -5,11 +5,14 @@ use Rattle.std.proofs.Math.Option.{Option, none, some}
 use Rattle.layout.specs.Pick.{pick}
 use Rattle.regionmap.specs.declared.Offset.{Offset}
 use Rattle.regionmap.specs.Map.{Map}
-use Rattle.domain.specs.declared.{Op.Op, OsError.OsError}
+use Rattle.domain.specs.declared.Op.{Op}
+use Rattle.std.specs.declared.option.Option.{Option as StdOption}
 use Rattle.platform.specs.declared.Answer.{Answer}
 use Rattle.platform.specs.declared.Flushed.{Flushed as FlushResult}
 use Rattle.platform.specs.declared.Flushed.TheVariants as Flushed
-use Rattle.completion.specs.declared.{WriteTicket.WriteTicket, Range.Range, Context.Context, Refusal.Refusal, Outcome.Outcome, Buffer.Buffer}
+use Rattle.completion.specs.declared.{WriteTicket.WriteTicket, Range.Range, Context.Context, Refusal.Refusal, Outcome.Outcome}
+use Rattle.completion.specs.Buffers.{Buffer}
+use Rattle.std.specs.declared.option.Option.TheVariants.{Some as Back, None as Lost}
 use Rattle.completion.specs.declared.{Completion.Completion, Reply.Reply}
 use Rattle.model.specs.declared.{Opening.Opening, Lengths.Lengths, Kind.Kind, Split.Split, Awaits.Awaits, Row.Row, Request.Request, Call.Call}
 use Rattle.model.specs.State.{State}
@@ -41,8 +44,8 @@ buf_of s b n = record { number = b; len = n; bytes = bytes_at s b }
 
 -- a buffer, if it came back
 unfoldable pub back_of : State → Buffer → Option IoBuf
-back_of s (Buffer.Back b n) = some (buf_of s b n)
-back_of s Buffer.Lost = none
+back_of s (Back h) = some (buf_of s h.buffer h.len)
+back_of s Lost = none
 
 -- "the region and the operation's whole range"
 unfoldable pub context_of : Range → ErrorContext
@@ -202,9 +205,9 @@ error_as Refusal.NotAwaited = none
 error_as Refusal.AbovePiece = none
 
 -- "The host gets Io or QueueFull and the range"
-unfoldable pub refused_error : Range → Op → OsError → Error
-refused_error r op OsError.None = NotWritten QueueFull (context_of r)
-refused_error r op (OsError.Raw n) = Io op n (context_of r)
+unfoldable pub refused_error : Range → Op → StdOption ℕ → Error
+refused_error r op StdOption.None = NotWritten QueueFull (context_of r)
+refused_error r op (StdOption.Some n) = Io op n (context_of r)
 
 -- the operation that the queue is handed
 unfoldable pub req_as : Bool → ℕ → IoBuf → Req

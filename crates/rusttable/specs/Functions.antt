@@ -9,9 +9,8 @@ use Rattle.std.proofs.Math.ListN.{get_elem?}
 use Rattle.layout.specs.Pick.{pick}
 use Rattle.regionmap.specs.declared.Position.{Position}
 use Rattle.regionmap.specs.Words.{position_of}
-use Rattle.domain.specs.declared.{Op.Op, OsError.OsError, FirstCause.FirstCause}
-use Rattle.domain.specs.declared.Poisoned.{Poisoned as Poison}
-use Rattle.domain.specs.declared.Poisoned.TheVariants as Poisoned
+use Rattle.domain.specs.declared.{Op.Op, FirstCause.FirstCause}
+use Rattle.std.specs.declared.option.Option.{Option as StdOption}
 use Rattle.domain.specs.Domain.{first_kept}
 use Rattle.completion.specs.declared.{WriteTicket.WriteTicket, DurableReceipt.DurableReceipt}
 use Rattle.model.specs.declared.{Kind.Kind, Split.Split, Gate.Gate}
@@ -94,7 +93,7 @@ poison store cause =
     record { settings = store.settings; regions = store.regions; poison = first_kept store.poison cause; issued = store.issued }
 
 -- io.rs, `Store::unknown`: "Poisons the domain after a failure past submission and returns the matching error."
-unfoldable pub unknown : Store → Op → OsError → ErrorContext → Store × Error
+unfoldable pub unknown : Store → Op → StdOption ℕ → ErrorContext → Store × Error
 unknown store op raw c = (poison store (record { op = op; raw = raw }), DurabilityUnknown op raw c)
 
 -- io.rs, `Store::refused`
@@ -138,9 +137,9 @@ receipt_for store t need =
     }
 
 -- io.rs, `Store::ready`
-unfoldable pub unpoisoned : Poison → Result (Unit {0}) Error
-unpoisoned Poisoned.Never = Ok tt
-unpoisoned (Poisoned.First first) = Err (Poisoned first)
+unfoldable pub unpoisoned : StdOption FirstCause → Result (Unit {0}) Error
+unpoisoned StdOption.None = Ok tt
+unpoisoned (StdOption.Some first) = Err (Poisoned first)
 
 unfoldable pub ready : Store → Result (Unit {0}) Error
 ready store = pick store.settings.read_only (Err (not_written ReadOnly no_context)) (unpoisoned store.poison)
@@ -153,7 +152,7 @@ ready_for store r = tried (ready store) Err λ u. pick r.read_only (Err (not_wri
 
 -- settle.rs, `settle_write`: "A write is written only if the count is the whole length and the buffer came back. Else it ends DurabilityUnknown with
 -- the OS error, if there was one, and the store is poisoned with the cause write and that error, the first cause kept."
-unfoldable pub settle_write : Store → Region → Position → Position → Bool → OsError → Store × Result WriteTicket Error
+unfoldable pub settle_write : Store → Region → Position → Position → Bool → StdOption ℕ → Store × Result WriteTicket Error
 settle_write store state start end full err =
     pick full (store, Ok (ticket store state start end))
     ((unknown store Op.Write err (ctx_range state start end)).0, Err (unknown store Op.Write err (ctx_range state start end)).1)
@@ -327,9 +326,9 @@ is_full (Ok n) (some b) = eqb n b.len
 is_full (Err e) buf = false
 
 -- `result.err()`
-unfoldable pub err_in : RawResult → OsError
-err_in (Ok n) = OsError.None
-err_in (Err e) = OsError.Raw e.raw
+unfoldable pub err_in : RawResult → StdOption ℕ
+err_in (Ok n) = StdOption.None
+err_in (Err e) = StdOption.Some e.raw
 
 -- `settle`
 unfoldable pub settle_kind : Store → Region → Option IoBuf → RawResult → Kind → Store × Outcome
@@ -352,9 +351,9 @@ written (Ok d) = done_write d
 written (Err e) = none
 
 -- `match store.inner.domain.poisoned()`: "no receipt once poisoned", else "the write itself was durable at completion"
-unfoldable pub receipted : Store → Written → Poison → Outcome
-receipted store w (Poisoned.First first) = Err (Poisoned first)
-receipted store w Poisoned.Never = Ok (Wrote (record { ticket = w.ticket; receipt = some (durable_receipt store w.ticket (2 ^ 64 - 1)) }))
+unfoldable pub receipted : Store → Written → StdOption FirstCause → Outcome
+receipted store w (StdOption.Some first) = Err (Poisoned first)
+receipted store w StdOption.None = Ok (Wrote (record { ticket = w.ticket; receipt = some (durable_receipt store w.ticket (2 ^ 64 - 1)) }))
 
 -- "A short read: the buffer holds only the bytes read"
 unfoldable pub read_len : Outcome → Option ℕ

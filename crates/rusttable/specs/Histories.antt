@@ -7,7 +7,7 @@ use Rattle.std.proofs.Math.Option
 use Rattle.std.proofs.Math.Option.{Option, none, some}
 use Rattle.layout.specs.Pick.{pick}
 use Rattle.domain.specs.declared.FirstCause.{FirstCause}
-use Rattle.domain.specs.declared.Poisoned.TheVariants as Poisoned
+use Rattle.std.specs.declared.option.Option.{Option as StdOption}
 use Rattle.platform.specs.declared.Answer.{Answer}
 use Rattle.completion.specs.declared.Reply.{Reply}
 use Rattle.model.specs.declared.{Opening.Opening, Lengths.Lengths, Gate.Gate}
@@ -80,7 +80,7 @@ rust_run r (h ∷ hs) = let z = rust_step r h in let behind = rust_run z.0 hs in
 -- "At first gates are open, no region is read-only or forced, nothing is poisoned"
 unfoldable pub rust_opened : Opening → List Plan → Submitter
 rust_opened o plans =
-    record { store = record { settings = o; regions = map at_first plans; poison = Poisoned.Never; issued = 0 }; table = rustNew o.depth }
+    record { store = record { settings = o; regions = map at_first plans; poison = StdOption.None; issued = 0 }; table = rustNew o.depth }
 
 -- ---- what the events of a history hand it
 

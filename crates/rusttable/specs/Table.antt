@@ -6,8 +6,8 @@
 use Rattle.std.specs.Prelude.{Bool, List, ℕ}
 use Rattle.std.proofs.Math.Option.{Option}
 use Rattle.regionmap.specs.declared.Position.{Position}
-use Rattle.domain.specs.declared.{Op.Op, OsError.OsError, FirstCause.FirstCause}
-use Rattle.domain.specs.declared.Poisoned.{Poisoned as Poison}
+use Rattle.domain.specs.declared.{Op.Op, FirstCause.FirstCause}
+use Rattle.std.specs.declared.option.Option.{Option as StdOption}
 use Rattle.completion.specs.declared.{WriteTicket.WriteTicket, DurableReceipt.DurableReceipt}
 use Rattle.model.specs.declared.{Opening.Opening, Kind.Kind, Split.Split}
 use Rattle.model.specs.State.{Region}
@@ -53,7 +53,7 @@ pub data Error : Type 0 where
   NotWritten : NotWrittenCause → ErrorContext → Error
   Poisoned : FirstCause → Error
   Io : Op → ℕ → ErrorContext → Error
-  DurabilityUnknown : Op → OsError → ErrorContext → Error
+  DurabilityUnknown : Op → StdOption ℕ → ErrorContext → Error
   Corruption : ErrorContext → Error
 
 -- flusher.rs: `Flushed = Result<u64, Error>`
@@ -127,7 +127,7 @@ pub data Finish : Type 0 where
 pub record Store : Type 0 where
   pub settings : Opening
   pub regions : List Region
-  pub poison : Poison
+  pub poison : StdOption FirstCause
   pub issued : ℕ
 
 -- submitter/mod.rs's Submitter: its store, and of queue_core.rs's Core the table. The queue is the caller: what it is handed is a result, what it

@@ -28,32 +28,16 @@ none_given (SetReadOnly h b) n w = refl
 none_given (SetForced h b) n w = refl
 none_given (ReportPoison e) n w = refl
 
--- nothing but the pool's bytes is changed (`still`)
-module _ (flushes : ℕ) (counts : Counts) (rows : List Row) (store free ready owners : List ℕ) where
-  abbrev pub Same : ℕ → Counts → List Row → ℕ → ℕ → Type 0
-  Same f' c' r' n' n = (f' ≡ flushes) × ((c' ≡ counts) × ((r' ≡ rows) × (n' ≡ n)))
-
-  pub moved : (P : Held → List ℕ → Type 0) (pool' : List ℕ) (f' : ℕ) (c' : Counts) (r' : List Row) (n' n : ℕ) (out : List ℕ) → Same f' c' r' n' n
-      → P (held_of flushes counts (lent_of rows store free ready owners pool')) (take n out) → P (held_of f' c' (lent_of r' store free ready owners pool')) (take n' out)
-  moved P pool' f' c' r' n' n out e p =
-      subst (λ (q : Held × List ℕ). P q.0 q.1) (λ j. (held_of (sym e.0 j) (sym e.1.0 j) (lent_of (sym e.1.1.0 j) store free ready owners pool'), take (sym e.1.1.1 j) out)) p
-
-module _ (number flushes : ℕ) (counts : Counts) (rows : List Row) (store free ready owners pool : List ℕ) where
-  abbrev h : Held
-  h = held_of flushes counts (lent_of rows store free ready owners pool)
-
-  pub nothing_asked : (asks : Asks) → asks ≡ Nothing → (f' : ℕ) (c' : Counts) (r' : List Row) (n' : ℕ) (out : List ℕ) → Same flushes counts rows store free ready owners f' c' r' n' 0
-      → Asked asks number h (held_of f' c' (lent_of r' store free ready owners pool)) (take n' out)
+-- nothing is asked for, a call, or what no call is
+module _ (number : ℕ) (h : Held) (asks : Asks) where
+  pub nothing_asked : asks ≡ Nothing → Asked asks number h h []
   unfolding Asked
-  nothing_asked asks e f' c' r' n' out s =
-      moved flushes counts rows store free ready owners (Asked asks number h) pool f' c' r' n' 0 out s (subst (λ (x : Asks). Asked x number h h []) (sym e) (record { held = refl; prints = refl }))
+  nothing_asked e = subst (λ (x : Asks). Asked x number h h []) (sym e) (record { held = refl; prints = refl })
 
-  pub other_asked : (asks : Asks) → asks ≡ Other → (f' : ℕ) (c' : Counts) (r' : List Row) (n' n : ℕ) (out : List ℕ) → Same flushes counts rows store free ready owners f' c' r' n' n → take n out ≡ bad_text number
-      → Asked asks number h (held_of f' c' (lent_of r' store free ready owners pool)) (take n' out)
+  pub other_asked : asks ≡ Other → (text : List ℕ) → text ≡ bad_text number → Asked asks number h h text
   unfolding Asked
-  other_asked asks e f' c' r' n' n out s p =
-      moved flushes counts rows store free ready owners (Asked asks number h) pool f' c' r' n' n out s (subst (λ (x : Asks). Asked x number h h (take n out)) (sym e) (record { held = refl; prints = p }))
+  other_asked e text p = subst (λ (x : Asks). Asked x number h h text) (sym e) (record { held = refl; prints = p })
 
-  pub call_asked : (asks : Asks) (c : Call) → asks ≡ calls c → (h' : Held) (text : List ℕ) → Ran c h h' text → Asked asks number h h' text
+  pub call_asked : (c : Call) → asks ≡ calls c → (h' : Held) (text : List ℕ) → Ran c h h' text → Asked asks number h h' text
   unfolding Asked
-  call_asked asks c e h' text r = subst (λ (x : Asks). Asked x number h h' text) (sym e) r
+  call_asked c e h' text r = subst (λ (x : Asks). Asked x number h h' text) (sym e) r

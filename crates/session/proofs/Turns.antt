@@ -24,6 +24,6 @@ others_go_on Refused ended w = refl
 others_go_on Over ended w = absurd (w refl)
 
 -- the same, further in the input, stands where it stood
-pub same : (r now : Running) (plan store free ready owners pool : List ℕ) → (now.stage ≡ r.stage) × ((now.rows ≡ r.rows) × ((now.counts ≡ r.counts) × (now.flushes ≡ r.flushes)))
+pub same : (r now : Running) (plan store free ready owners pool : List ℕ) → (now.stage ≡ r.stage) × (now.host ≡ r.host)
     → standing now plan store free ready owners pool ≡ standing r plan store free ready owners pool
-same r now plan store free ready owners pool m = λ j. stood_at (m.0 j) plan (m.1.1.1 j) (m.1.1.0 j) (lent_of (m.1.0 j) store free ready owners pool)
+same r now plan store free ready owners pool m = λ j. stood_at (m.0 j) plan (m.1 j).flushes (m.1 j).counts (lent_of (m.1 j).rows store free ready owners pool)

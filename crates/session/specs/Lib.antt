@@ -6,3 +6,4 @@ pub mod Unopened
 pub mod Opened
 pub mod Lines
 pub mod Replayed
+pub mod Lent

@@ -10,7 +10,8 @@ use Rattle.session.specs.Lines.{Line}
 
 -- where a trace stands, in the program's memory
 abbrev pub standing : Running → List ℕ → List ℕ → List ℕ → List ℕ → List ℕ → List ℕ → Stood
-standing r plan store free ready owners pool = stood_at r.stage plan r.flushes r.counts (lent_of r.rows store free ready owners pool)
+standing r plan store free ready owners pool =
+    stood_at r.stage plan r.host.flushes r.host.counts (lent_of r.host.rows store free ready owners pool)
 
 -- a line is answered: one step of the trace, with some text
 pub record Leaves (bytes : List ℕ) (n : ℕ) (s s' : Stood) : Type 0 where

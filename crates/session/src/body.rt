@@ -1,14 +1,15 @@
 // The lines of a trace after `start`, answered: over an open table, or after a refusal.
 ghost use Rattle.std.specs.Prelude.{◌≡◌, List, ℕ, ◌≤◌, take};
-ghost use Rattle.optable.specs.Called.{lent_of};
+ghost use Rattle.memory.specs.Words.{SameWords};
 ghost use Rattle.fields.specs.Trace.{Kept};
 ghost use Rattle.parser.specs.Said.{said_read};
-ghost use Rattle.session.specs.Unopened.{stood_at};
+ghost use Rattle.session.specs.Lent.{stood_in};
+ghost use Rattle.session.specs.declared.Stage.TheVariants as Stage;
 ghost use Rattle.session.specs.Opened.{refused_line, TableLine};
 
-use crate::{Answered, Stage};
+use crate::Host;
 use fields::reader::Reader;
-use model::{Counts, Row};
+use memory::words::Words;
 use parser::forms::Said;
 
 // "after which every call prints `no 13`"
@@ -30,46 +31,19 @@ pub fn table_line(
     r: Reader,
     text: &[u8; 4096],
     number: u64,
-    flushes: u64,
-    counts: Counts,
-    rows: [Row; 64],
-    store: &mut [u64],
-    free: &mut [u64],
-    ready: &mut [u64],
-    owners: &mut [u64],
+    host: &mut Host,
+    words: &mut Words,
     pool: &mut [u8],
     out: &mut [u8; 4096],
-) -> Answered
+) -> usize
+    ensures same { SameWords words.old words.new }
     ensures by_index { (bytes : List ℕ) → Kept r text.now bytes → (plan : List ℕ) → TableLine n (said_read bytes) number
-        (stood_at (Stage.Table n) plan flushes counts
-        (lent_of rows store.old free.old ready.old owners.old pool.old))
-        (stood_at result.stage plan result.flushes result.counts
-        (lent_of result.rows store.new free.new ready.new owners.new pool.new))
-        (take result.printed out.new) }
-    ensures bounded { result.printed ≤ 4096 }
+        (stood_in (Stage.Table n) plan host.old words.old pool.old)
+        (stood_in (Stage.Table n) plan host.new words.new pool.new)
+        (take result out.new) }
+    ensures bounded { result ≤ 4096 }
 {
     let said = parser::lines::finish(r, text);
-    let k = layout::lesser(n, pool.len());
-    let a = crate::table::answer(
-        said,
-        number,
-        flushes,
-        counts,
-        rows,
-        store,
-        free,
-        ready,
-        owners,
-        &mut pool[..k],
-        out,
-    );
-    let held = a.rows;
-    let counted = a.counts;
-    Answered {
-        stage: Stage::Table(n),
-        rows: held,
-        counts: counted,
-        flushes: a.flushes,
-        printed: a.printed,
-    }
+    let k = n.min(pool.len());
+    crate::table::answer(said, number, host, words, &mut pool[..k], out)
 }

@@ -19,12 +19,13 @@ pub mod table;
 pub mod turn;
 
 ghost use Rattle.std.specs.Prelude.{List, ℕ, ◌≤◌, take};
-ghost use Rattle.optable.specs.Called.{lent_of};
+ghost use Rattle.memory.specs.Words.{SameWords};
 ghost use Rattle.fields.specs.Trace.{Kept};
-ghost use Rattle.session.specs.Unopened.{stood_at};
+ghost use Rattle.session.specs.Lent.{stood_in};
 ghost use Rattle.session.specs.Lines.{Line};
 
 use fields::reader::Reader;
+use memory::words::Words;
 use model::{Counts, Opening, Row};
 
 // Where a trace stands.
@@ -42,13 +43,18 @@ pub enum Stage {
     Over,
 }
 
-// The stage that follows a line, what is held by value between two lines, and how many bytes are to be printed.
+// What the host of a trace holds by value: "the flush count last given, 0 at first", the table's counts and its rows.
 #[derive(Clone, Copy)]
-pub struct Answered {
-    pub stage: Stage,
-    pub rows: [Row; 64],
-    pub counts: Counts,
+pub struct Host {
     pub flushes: u64,
+    pub counts: Counts,
+    pub rows: [Row; 64],
+}
+
+// The stage that follows a line, and how many bytes are to be printed.
+#[derive(Clone, Copy)]
+pub struct Follows {
+    pub stage: Stage,
     pub printed: usize,
 }
 
@@ -58,55 +64,34 @@ pub fn line(
     r: Reader,
     text: &[u8; 4096],
     number: u64,
-    flushes: u64,
-    counts: Counts,
-    rows: [Row; 64],
     plan: &mut [u64; 560],
-    store: &mut [u64],
-    free: &mut [u64],
-    ready: &mut [u64],
-    owners: &mut [u64],
+    host: &mut Host,
+    words: &mut Words,
     pool: &mut [u8],
     out: &mut [u8; 4096],
-) -> Answered
+) -> Follows
+    ensures same { SameWords words.old words.new }
     ensures by_index { (bytes : List ℕ) → Kept r text.now bytes → Line bytes number
-        (stood_at stage plan.old flushes counts
-        (lent_of rows store.old free.old ready.old owners.old pool.old))
-        (stood_at result.stage plan.new result.flushes result.counts
-        (lent_of result.rows store.new free.new ready.new owners.new pool.new))
+        (stood_in stage plan.old host.old words.old pool.old)
+        (stood_in result.stage plan.new host.new words.new pool.new)
         (take result.printed out.new) }
     ensures bounded { result.printed ≤ 4096 }
 {
     match stage {
-        Stage::Before => {
-            let f = crate::preamble::before_line(r, text, number, out);
-            let next = f.stage;
-            Answered {
-                stage: next,
-                rows,
-                counts,
-                flushes,
-                printed: f.printed,
-            }
+        Stage::Before => crate::preamble::before_line(r, text, number, out),
+        Stage::Planned(o) => {
+            crate::preamble::planned_line(o, r, text, number, plan, host, words, pool, out)
         }
-        Stage::Planned(o) => crate::preamble::planned_line(
-            o, r, text, number, plan, rows, counts, flushes, store, free, ready, owners, pool, out,
-        ),
-        Stage::Table(n) => crate::body::table_line(
-            n, r, text, number, flushes, counts, rows, store, free, ready, owners, pool, out,
-        ),
-        Stage::Refused => Answered {
+        Stage::Table(n) => Follows {
+            stage: Stage::Table(n),
+            printed: crate::body::table_line(n, r, text, number, host, words, pool, out),
+        },
+        Stage::Refused => Follows {
             stage: Stage::Refused,
-            rows,
-            counts,
-            flushes,
             printed: crate::body::refused_line(r, text, number, out),
         },
-        Stage::Over => Answered {
+        Stage::Over => Follows {
             stage: Stage::Over,
-            rows,
-            counts,
-            flushes,
             printed: 0,
         },
     }

@@ -4,147 +4,105 @@ use crate::Stage;
 use crate::turn::Running;
 use fields::reader::Reader;
 use input::Input;
+use memory::words::Words;
 use std::io::{Stdin, Stdout};
+
+// The memory of a program's own: the line and the bytes read last, and what the table is opened in.
+#[derive(Drop)]
+struct Memory {
+    line: [u8; 4096],
+    chunk: [u8; 4096],
+    plan: [u64; 560],
+    store: [u64; 608],
+    free: [u64; 64],
+    ready: [u64; 1025],
+    owners: [u64; 4096],
+    pool: [u8; 1048576],
+}
 
 // Whether a line is `# list`.
 fn is_list(r: Reader, line: &[u8; 4096]) -> bool {
-    if r.long {
-        return false;
-    }
-    if r.kept != 6 {
-        return false;
-    }
-    line[0] == b'#'
-        && line[1] == b' '
-        && line[2] == b'l'
-        && line[3] == b'i'
-        && line[4] == b's'
-        && line[5] == b't'
+    !r.long && r.kept == 6 && line.starts_with(b"# list")
 }
 
 // The first line of a trace.
 fn first(i: Input) -> Input {
-    let reader = i.reader;
-    Input {
-        reader,
-        number: 1,
-        whole: i.whole,
-        at: i.at,
-        got: i.got,
-        ended: i.ended,
-    }
+    Input { number: 1, ..i }
 }
 
 // Goes on in the input; a complete line starts a trace, or is answered.
-fn list_turn(
-    stdin: Stdin,
-    stdout: Stdout,
-    r: Running,
-    line: &mut [u8; 4096],
-    chunk: &mut [u8; 4096],
-    plan: &mut [u64; 560],
-    store: &mut [u64],
-    free: &mut [u64],
-    ready: &mut [u64],
-    owners: &mut [u64],
-    pool: &mut [u8; 1048576],
-) -> Running {
-    let was = r.from;
-    let from = input::next(stdin, was, line, chunk);
-    let reader = from.reader;
+fn list_turn(stdin: Stdin, stdout: Stdout, r: Running, m: &mut Memory) -> Running {
+    let from = input::next(stdin, r.from, &mut m.line, &mut m.chunk);
     if !from.whole {
         return crate::turn::moved(r, from);
     }
-    if is_list(reader, line) {
-        *pool = [0u8; 1048576];
+    if is_list(from.reader, &m.line) {
+        m.pool = [0u8; 1048576];
         return crate::turn::begun(first(from));
     }
+    let mut words = Words {
+        store: &mut m.store,
+        free: &mut m.free,
+        ready: &mut m.ready,
+        owners: &mut m.owners,
+    };
     let now = crate::turn::moved(r, from);
-    crate::turn::answer(stdout, now, line, plan, store, free, ready, owners, pool)
+    crate::turn::answer(stdout, now, &m.line, &mut m.plan, &mut words, &mut m.pool)
 }
 
-// A turn of either program.
-fn turn(
-    many: bool,
-    stdin: Stdin,
-    stdout: Stdout,
-    r: Running,
-    line: &mut [u8; 4096],
-    chunk: &mut [u8; 4096],
-    plan: &mut [u64; 560],
-    store: &mut [u64],
-    free: &mut [u64],
-    ready: &mut [u64],
-    owners: &mut [u64],
-    pool: &mut [u8; 1048576],
-) -> Running {
-    if many {
-        return list_turn(
-            stdin, stdout, r, line, chunk, plan, store, free, ready, owners, pool,
-        );
-    }
+// Goes on in the input, and answers a complete line.
+fn replay_turn(stdin: Stdin, stdout: Stdout, r: Running, m: &mut Memory) -> Running {
+    let mut words = Words {
+        store: &mut m.store,
+        free: &mut m.free,
+        ready: &mut m.ready,
+        owners: &mut m.owners,
+    };
     crate::turn::turn(
-        stdin, stdout, r, line, chunk, plan, store, free, ready, owners, pool,
-    )
-}
-
-// Whether either program ends: after `limit` another trace may follow.
-fn ends(many: bool, stage: Stage, from: Input) -> bool {
-    if many {
-        return from.ended;
-    }
-    crate::turn::over(stage, from)
-}
-
-// Reads lines until the program ends, and answers each. A loop has to end: it counts its turns down, from a number that no run uses up.
-fn run(
-    many: bool,
-    stdin: Stdin,
-    stdout: Stdout,
-    r: Running,
-    plan: &mut [u64; 560],
-    store: &mut [u64],
-    free: &mut [u64],
-    ready: &mut [u64],
-    owners: &mut [u64],
-    pool: &mut [u8; 1048576],
-) {
-    let mut line = [0u8; 4096];
-    let mut chunk = [0u8; 4096];
-    let mut now = r;
-    let mut turns = u64::MAX;
-    while turns > 0 {
-        let stage = now.stage;
-        let from = now.from;
-        if ends(many, stage, from) {
-            return;
-        }
-        now = turn(
-            many, stdin, stdout, now, &mut line, &mut chunk, plan, store, free, ready, owners, pool,
-        );
-        turns -= 1;
-    }
-}
-
-// Answers a trace, or many, in memory of the program's own.
-pub fn replay(stdin: Stdin, stdout: Stdout, many: bool) {
-    let mut plan = [0u64; 560];
-    let mut store = [0u64; 608];
-    let mut free = [0u64; 64];
-    let mut ready = [0u64; 1025];
-    let mut owners = [0u64; 4096];
-    let mut pool = [0u8; 1048576];
-    let r = crate::turn::begun(input::begin());
-    run(
-        many,
         stdin,
         stdout,
         r,
-        &mut plan,
-        &mut store,
-        &mut free,
-        &mut ready,
-        &mut owners,
-        &mut pool,
-    );
+        &mut m.line,
+        &mut m.chunk,
+        &mut m.plan,
+        &mut words,
+        &mut m.pool,
+    )
+}
+
+// Takes turns until the program ends. A loop has to end: it has as many turns as no run uses up.
+fn run<E, T>(ends: E, turn: T)
+where
+    E: Fn(Stage, Input) -> bool,
+    T: Fn(Running, &mut Memory) -> Running,
+    requires ends { E.IsAlwaysCallable ends }
+    requires turn { T.IsAlwaysCallable turn }
+{
+    let mut m = Memory {
+        line: [0; 4096],
+        chunk: [0; 4096],
+        plan: [0; 560],
+        store: [0; 608],
+        free: [0; 64],
+        ready: [0; 1025],
+        owners: [0; 4096],
+        pool: [0; 1048576],
+    };
+    let mut now = crate::turn::begun(input::begin());
+    for _ in 0..u64::MAX {
+        if ends(now.stage, now.from) {
+            return;
+        }
+        now = turn(now, &mut m);
+    }
+}
+
+// Answers a trace.
+pub fn replay(stdin: Stdin, stdout: Stdout) {
+    run(crate::turn::over, |r, m| replay_turn(stdin, stdout, r, m));
+}
+
+// Answers traces, one after another: after `limit` another may follow.
+pub fn lists(stdin: Stdin, stdout: Stdout) {
+    run(|_, from| from.ended, |r, m| list_turn(stdin, stdout, r, m));
 }

@@ -1,11 +1,12 @@
 // `start`: the table is opened in the program's memory, or the opening breaks a rule, or it is larger than that memory.
 ghost use Rattle.std.specs.Prelude.{◌≡◌, ◌*◌, ◌≤◌, length, take};
 ghost use Rattle.layout.specs.Pick.{pick};
-ghost use Rattle.optable.specs.Called.{lent_of};
-ghost use Rattle.session.specs.Start.{keeps, StartsTo};
+ghost use Rattle.memory.specs.Words.{SameWords, lent_words};
+ghost use Rattle.session.specs.Start.{keeps};
+ghost use Rattle.session.specs.Lent.{StartsIn};
 
+use memory::words::Words;
 use model::{Lengths, Opening, Row};
-use opening::Opened;
 
 // What became of an opening.
 #[derive(Clone, Copy)]
@@ -15,13 +16,6 @@ pub enum Started {
     Refused,
     // "keeps all rules but is larger than the program's own memory"
     TooLarge,
-}
-
-// The rows after `start`, and what became of the opening.
-#[derive(Clone, Copy)]
-pub struct StartedIn {
-    pub rows: [Row; 64],
-    pub started: Started,
 }
 
 // How many of the pool's bytes are lent: buffers × capacity, or all where there are fewer.
@@ -81,30 +75,16 @@ fn not_opened(o: Opening, plan: &[u64]) -> Started
 pub fn start(
     o: Opening,
     plan: &[u64],
-    rows: [Row; 64],
-    store: &mut [u64],
-    free: &mut [u64],
-    ready: &mut [u64],
-    owners: &mut [u64],
+    rows: &mut [Row; 64],
+    words: &mut Words,
     pool: &[u8],
-) -> StartedIn
-    ensures { StartsTo o plan.now
-        (lent_of rows store.old free.old ready.old owners.old pool.now) result.started result.rows
-        store.new free.new ready.new owners.new }
+) -> Started
+    ensures same { SameWords words.old words.new }
+    ensures starts { StartsIn o plan.now (lent_words rows.old words.old pool.now) result rows.new words.new }
 {
     let n = bytes_for(o, pool);
-    let part = &pool[..n];
-    let opened = submitter::host::open_in(o, plan, rows, store, free, ready, owners, part);
-    let held = opened.rows;
-    let table = opened.opened;
-    match table {
-        Opened::Table(_) => StartedIn {
-            rows: held,
-            started: Started::Table,
-        },
-        Opened::No(_) => StartedIn {
-            rows: held,
-            started: not_opened(o, plan),
-        },
+    match submitter::open(o, plan, rows, words, &pool[..n]) {
+        Ok(_) => Started::Table,
+        Err(_) => not_opened(o, plan),
     }
 }

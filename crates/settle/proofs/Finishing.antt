@@ -4,15 +4,16 @@ use mathlib.Core.Bool.{and-false}
 use Rattle.layout.proofs.Tests.{true_or_false}
 use Rattle.regionmap.specs.Map.{Map}
 use Rattle.iobuf.proofs.Laws.{turned_none}
-use Rattle.domain.specs.declared.Poisoned.{Poisoned}
-use Rattle.domain.specs.declared.Poisoned.TheVariants.{Never}
+use Rattle.std.specs.declared.option.Option.{Option}
+use Rattle.std.specs.declared.option.Option.TheVariants.{None}
+use Rattle.domain.specs.declared.FirstCause.{FirstCause}
 use Rattle.platform.specs.declared.Answer.{Answer}
 use Rattle.platform.specs.declared.Answer.TheVariants.{Count, Error, Refused, RefusedWith}
 use Rattle.platform.specs.declared.Flushed.{Flushed}
 use Rattle.completion.specs.declared.Refusal.TheVariants.{NotAwaited}
 use Rattle.completion.specs.declared.WriteTicket.{WriteTicket}
 use Rattle.completion.specs.declared.Outcome.{Outcome}
-use Rattle.completion.specs.declared.Buffer.TheVariants.{Back}
+use Rattle.std.specs.declared.option.Option.TheVariants.{Some as Back}
 use Rattle.model.specs.declared.Opening.{Opening}
 use Rattle.model.specs.declared.Kind.{Kind}
 use Rattle.model.specs.declared.Split.{Split}
@@ -53,7 +54,7 @@ no_refusal s (Error e media) r w = sym (and-false (eqb s.done 0))
 no_refusal s Refused r w = absurd (r refl)
 no_refusal s (RefusedWith e media) r w = absurd (w e media refl)
 
-module _ (o : Opening) (g : LiveRegion) (m : Map) (first : Poisoned) (row : Row) (piece : ℕ) (answer : Answer) (back : Bool) (flushes : ℕ) where
+module _ (o : Opening) (g : LiveRegion) (m : Map) (first : Option FirstCause) (row : Row) (piece : ℕ) (answer : Answer) (back : Bool) (flushes : ℕ) where
   -- the values tell what the rules say of a row that awaits this
   abbrev Answered : Finished → Awaits → Type 0
   Answered r w = PieceFits g m piece w → Tells r (λ bytes. answer_rules o (plan_with g m) g.forced first row bytes answer back flushes w)
@@ -80,11 +81,11 @@ module _ (o : Opening) (row : Row) (result : Flushed) where
   Resulted r w = Tells r (λ bytes. flush_rules o row bytes result w)
 
   pub awaits_flush_lem : (x : Outcome) (n : ℕ) (t : WriteTicket) (w : Awaits) → w ≡ Flush t → x ≡ flush_outcome o t result → n ≡ t.end.0 - t.start.0
-      → Resulted (Ended (record { outcome = x; buf = Back row.buffer n; turn = record { total = 0; by = 0 }; cause = Never })) w
+      → Resulted (Ended (record { outcome = x; buf = Back (record { buffer = row.buffer; len = n }); turn = record { total = 0; by = 0 }; cause = None })) w
   unfolding fate_by cause_is turned_by flush_rules flush_ends
   awaits_flush_lem x n t w e p q =
-      subst (Resulted (Ended (record { outcome = x; buf = Back row.buffer n; turn = record { total = 0; by = 0 }; cause = Never }))) (sym e)
-      (λ bytes. same_end p (ap (Back row.buffer) q) (turned_none 0 0 bytes refl))
+      subst (Resulted (Ended (record { outcome = x; buf = Back (record { buffer = row.buffer; len = n }); turn = record { total = 0; by = 0 }; cause = None }))) (sym e)
+      (λ bytes. same_end p (ap (λ (n : ℕ). Back (record { buffer = row.buffer; len = n })) q) (turned_none 0 0 bytes refl))
 
   -- of a row that awaits no flush
   pub no_flush : (w : Awaits) → ((t : WriteTicket) → w ≡ Flush t → ⊥) → Resulted (Away NotAwaited) w

@@ -1,9 +1,7 @@
--- What the proofs of this crate and of those above it share: a count that is written, a sum that fits, an answer that is no count,
+-- What the proofs of this crate and of those above it share: a sum that fits, an answer that is no count,
 -- an end and a ticket by their parts.
-use Rattle.std.proofs.Common.{◌≡◌, ℕ, ◌+◌, ◌-◌, ◌%◌, ◌^◌, ◌<◌, ◌≤◌, Bool, true, false, ◌&&◌, eqb, leb, List, sym, refl, ap, ◌∙◌, ⊎_elim, mod-eq_of_lt, arith, eq-eqb, ne_eqb, eqb-true, leb-false, leb-true}
+use Rattle.std.proofs.Common.{◌≡◌, ℕ, ◌+◌, ◌%◌, ◌^◌, ◌<◌, Bool, List, refl, ◌∙◌, mod-eq_of_lt}
 use mathlib.Core.Option.{Option}
-use borrow.Author.Tests.{eqb-false}
-use Rattle.layout.proofs.Tests.{true_or_false}
 use Rattle.regionmap.specs.declared.Position.{Position}
 use Rattle.regionmap.specs.Map.{Map}
 use Rattle.domain.specs.declared.FirstCause.{FirstCause}
@@ -12,37 +10,12 @@ use Rattle.platform.specs.declared.Answer.{Answer}
 use Rattle.platform.specs.declared.Answer.TheVariants.{Count, Error, Refused, RefusedWith}
 use Rattle.completion.specs.declared.WriteTicket.{WriteTicket}
 use Rattle.completion.specs.declared.Outcome.{Outcome}
-use Rattle.completion.specs.declared.Buffer.{Buffer}
+use Rattle.completion.specs.Buffers.{Buffer}
 use Rattle.model.specs.declared.Opening.{Opening}
 use Rattle.model.specs.declared.Kind.TheVariants.{Page}
 use Rattle.memory.specs.declared.liveregion.LiveRegion.{LiveRegion}
 use Rattle.step.specs.Rules.{Fate, Fate.ends, first_of, last_of, ticket_of}
 use Rattle.settle.specs.Finished.{plan_with}
-
--- ---- tests
-
--- done and n make the total just where done is at most the total and n is what is left of it
-module _ (done total n : ℕ) where
-  abbrev Left : Type 0
-  Left = eqb n (total - done) ≡ eqb (done + n) total
-
-  within : done ≤ total → Left
-  within l =
-      ⊎_elim (λ (t : eqb n (total - done) ≡ true). t ∙ sym (eq-eqb (done + n) total (omega (arith, l, eqb-true n (total - done) t))))
-      (λ (f : eqb n (total - done) ≡ false). f ∙ sym (ne_eqb (done + n) total (λ e. eqb-false n (total - done) f (omega (arith, l, e)))))
-      (true_or_false (eqb n (total - done)))
-
-  past : total < done → false ≡ eqb (done + n) total
-  past l = sym (ne_eqb (done + n) total (λ e. omega (arith, l, e)))
-
-  both_ways : (leb done total && eqb n (total - done)) ≡ eqb (done + n) total
-  both_ways =
-      ⊎_elim (λ (t : leb done total ≡ true). ap (λ (b : Bool). b && eqb n (total - done)) t ∙ within (leb-true done total t))
-      (λ (f : leb done total ≡ false). ap (λ (b : Bool). b && eqb n (total - done)) f ∙ past (leb-false done total f))
-      (true_or_false (leb done total))
-
-  pub fills : (left : ℕ) (r : Bool) → left ≡ total - done → r ≡ (leb done total && eqb n left) → r ≡ eqb (done + n) total
-  fills left r e h = h ∙ ap (λ (k : ℕ). leb done total && eqb n k) e ∙ both_ways
 
 -- ---- sums
 

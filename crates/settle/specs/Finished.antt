@@ -3,7 +3,8 @@ use Rattle.std.specs.Prelude.{◌≡◌, ℕ, ◌+◌, ◌^◌, ◌<◌, List}
 use Rattle.std.proofs.Math.Option.{Option, none, some}
 use Rattle.regionmap.specs.Map.{Map}
 use Rattle.iobuf.specs.Turn.{turned}
-use Rattle.domain.specs.declared.{FirstCause.FirstCause, Poisoned.Poisoned}
+use Rattle.domain.specs.declared.FirstCause.{FirstCause}
+use Rattle.std.specs.declared.option.Option.{Option as StdOption}
 use Rattle.platform.specs.declared.Answer.{Answer}
 use Rattle.model.specs.declared.{Split.Split, Awaits.Awaits}
 use Rattle.model.specs.Opening.{Plan}
@@ -12,9 +13,9 @@ use Rattle.step.specs.Rules.{piece_length, Fate, Fate.away, Fate.awaits, Fate.en
 use Rattle.settle.specs.declared.{Turn.Turn, Finished.Finished}
 
 -- the cause with which the store is poisoned, if any
-unfoldable pub cause_is : Poisoned → Option FirstCause
-cause_is Poisoned.Never = none
-cause_is (Poisoned.First c) = some c
+unfoldable pub cause_is : StdOption FirstCause → Option FirstCause
+cause_is StdOption.None = none
+cause_is (StdOption.Some c) = some c
 
 -- the bytes after a turn
 unfoldable pub turned_by : Turn → List ℕ → List ℕ

@@ -3,7 +3,6 @@
 ghost use Rattle.std.specs.Prelude.{◌≡◌};
 ghost use Rattle.step.specs.Rules.{above_piece, first_refused, goes_on};
 
-use layout::both;
 use model::Split;
 use platform::Answer;
 
@@ -23,17 +22,18 @@ pub fn first_refused(s: Split, answer: Answer) -> bool
 {
     match answer {
         Answer::Refused => s.done == 0,
-        Answer::RefusedWith { raw: _, media: _ } => s.done == 0,
+        Answer::RefusedWith { .. } => s.done == 0,
         _ => false,
     }
 }
 
 // Whether the piece is whole with its buffer, and bytes are left (Table::finish).
+#[tactic(auto, unfolding(step::specs::Rules::goes_on, step::specs::Rules::is_whole), using(crate::proofs::Finishing::left_behind))]
 pub fn goes_on(piece: u64, s: Split, answer: Answer, back: bool) -> bool
     ensures { result ≡ goes_on piece s answer back }
 {
     match answer {
-        Answer::Count(n) => both(n == piece, both(back, piece < crate::left(s))),
+        Answer::Count(n) => n == piece && back && piece < crate::left(s),
         _ => false,
     }
 }

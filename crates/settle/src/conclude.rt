@@ -7,8 +7,8 @@ ghost use Rattle.settle.specs.Finished.{turned_by, plan_with, Tells};
 ghost use Rattle.model.specs.declared.Kind.TheVariants as Kind;
 
 use crate::{End, Finished, Turn};
-use completion::{Buffer, Outcome, WriteTicket};
-use domain::Poisoned;
+use completion::{Held, Outcome, WriteTicket};
+use domain::FirstCause;
 use memory::liveregion::LiveRegion;
 use model::{Awaits, Opening};
 use regionmap::Position;
@@ -37,15 +37,12 @@ pub fn ticket(
 }
 
 // A durable write without a flush: Poisoned if the store is, else a receipt of need 2^64 - 1.
-fn unflushed_outcome(o: Opening, first: Poisoned, t: WriteTicket) -> Outcome
+fn unflushed_outcome(o: Opening, first: Option<FirstCause>, t: WriteTicket) -> Outcome
     ensures { result ≡ unflushed o first t }
 {
     match first {
-        Poisoned::Never => Outcome::Receipt(
-            t,
-            region::receipt::receipt_for(o, t, 0xffff_ffff_ffff_ffff),
-        ),
-        Poisoned::First(cause) => Outcome::Poisoned(cause),
+        None => Outcome::Receipt(t, region::receipt::receipt_for(o, t, 0xffff_ffff_ffff_ffff)),
+        Some(cause) => Outcome::Poisoned(cause),
     }
 }
 
@@ -53,10 +50,10 @@ fn unflushed_outcome(o: Opening, first: Poisoned, t: WriteTicket) -> Outcome
 pub fn conclude(
     o: Opening,
     forced: bool,
-    first: Poisoned,
+    first: Option<FirstCause>,
     durable: bool,
     t: WriteTicket,
-    buf: Buffer,
+    buf: Option<Held>,
     turn: Turn,
 ) -> Finished
     ensures { Tells result (λ bytes. written_as o forced first durable t buf (turned_by turn bytes)) }
@@ -66,10 +63,10 @@ pub fn conclude(
             outcome: Outcome::Written(t),
             buf,
             turn,
-            cause: Poisoned::Never,
+            cause: None,
         });
     }
-    if layout::either(o.flush, forced) {
+    if o.flush || forced {
         return Finished::Next {
             awaits: Awaits::Flush(t),
             turn,
@@ -79,6 +76,6 @@ pub fn conclude(
         outcome: unflushed_outcome(o, first, t),
         buf,
         turn,
-        cause: Poisoned::Never,
+        cause: None,
     })
 }

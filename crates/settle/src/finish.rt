@@ -7,7 +7,7 @@ ghost use Rattle.settle.specs.Finished.{plan_with, Tells, PieceFits};
 
 use crate::{Finished, Turn};
 use completion::Refusal;
-use domain::Poisoned;
+use domain::FirstCause;
 use memory::liveregion::LiveRegion;
 use model::{Awaits, Kind, Opening, Row, Split};
 use platform::Answer;
@@ -16,7 +16,7 @@ use platform::Answer;
 pub fn finish_piece(
     o: Opening,
     g: LiveRegion,
-    first: Poisoned,
+    first: Option<FirstCause>,
     row: Row,
     kind: Kind,
     s: Split,
@@ -40,7 +40,7 @@ pub fn finish_piece(
     if crate::answer::goes_on(piece, s, answer, back) {
         let next = Split {
             total: s.total,
-            done: std::num::wrapping_add_u64(s.done, piece),
+            done: s.done.wrapping_add(piece),
         };
         return Finished::Next {
             awaits: Awaits::Piece(kind, next),
@@ -57,7 +57,7 @@ pub fn finish_piece(
 pub fn finish(
     o: Opening,
     g: LiveRegion,
-    first: Poisoned,
+    first: Option<FirstCause>,
     row: Row,
     piece: u64,
     answer: Answer,
@@ -67,8 +67,7 @@ pub fn finish(
     ensures { (m : Map) → PieceFits g m piece row.awaits
         → Tells result (λ bytes. rules o (plan_with g m) g.forced first row bytes (answered answer back flushes)) }
 {
-    let awaits = row.awaits;
-    match awaits {
+    match row.awaits {
         Awaits::Piece(kind, split) => finish_piece(
             o, g, first, row, kind, split, piece, answer, back, flushes,
         ),

@@ -5,14 +5,14 @@ ghost use Rattle.std.specs.Prelude.{◌≡◌, ℕ, ◌^◌, ◌<◌, false};
 ghost use Rattle.regionmap.specs.Map.{Map};
 ghost use Rattle.model.specs.declared.Opening.{Opening};
 ghost use Rattle.model.specs.declared.Row.{Row};
-ghost use Rattle.domain.specs.declared.Poisoned.{Poisoned};
+ghost use Rattle.std.specs.declared.option.Option.{Option};
+ghost use Rattle.domain.specs.declared.FirstCause.{FirstCause};
 ghost use Rattle.step.specs.Rules.{failed_read, read_outcome, read_length, last_piece, is_written};
 ghost use Rattle.settle.specs.Finished.{plan_with, CountFits, Tells};
 
 use crate::{End, Finished};
 use completion::{Outcome, Range};
-use domain::{FirstCause, Op, Poisoned};
-use layout::both;
+use domain::{FirstCause, Op};
 use memory::liveregion::LiveRegion;
 use model::{Kind, Opening, Row, Split};
 use platform::Answer;
@@ -41,7 +41,7 @@ fn read_outcome(range: Range, s: Split, answer: Answer, back: bool) -> Outcome
         Answer::Count(n) => {
             if back {
                 Outcome::Read {
-                    len: std::num::wrapping_add_u64(s.done, n),
+                    len: s.done.wrapping_add(n),
                 }
             } else {
                 Outcome::Interrupted(range)
@@ -58,7 +58,7 @@ fn read_length(s: Split, answer: Answer) -> u64
     ensures { CountFits s answer → result ≡ read_length s answer }
 {
     match answer {
-        Answer::Count(n) => std::num::wrapping_add_u64(s.done, n),
+        Answer::Count(n) => s.done.wrapping_add(n),
         _ => s.total,
     }
 }
@@ -73,7 +73,7 @@ pub fn last_read(
     answer: Answer,
     back: bool,
 ) -> Finished
-    ensures { (o : Opening) (m : Map) (first : Poisoned) (row : Row) (flushes : ℕ) → row.buffer ≡ buffer → CountFits s answer
+    ensures { (o : Opening) (m : Map) (first : Option FirstCause) (row : Row) (flushes : ℕ) → row.buffer ≡ buffer → CountFits s answer
         → Tells result (λ bytes. last_piece o (plan_with g m) g.forced first row (Kind.Read start end) s bytes answer back flushes) }
 {
     let range = Range {
@@ -85,16 +85,17 @@ pub fn last_read(
         outcome: read_outcome(range, s, answer, back),
         buf: crate::buffer_as(back, buffer, read_length(s, answer)),
         turn: crate::turn_back(back, s),
-        cause: Poisoned::Never,
+        cause: None,
     })
 }
 
 // Whether a write is written: its count is the whole length and the buffer came back.
+#[tactic(auto, unfolding(step::specs::Rules::is_written))]
 pub fn is_written(s: Split, answer: Answer, back: bool) -> bool
     ensures { result ≡ is_written s answer back }
 {
     match answer {
-        Answer::Count(n) => both(both(s.done <= s.total, n == crate::left(s)), back),
+        Answer::Count(n) => s.done <= s.total && n == crate::left(s) && back,
         _ => false,
     }
 }
@@ -109,7 +110,7 @@ pub fn failed_write(
     answer: Answer,
     back: bool,
 ) -> Finished
-    ensures { (o : Opening) (m : Map) (first : Poisoned) (row : Row) (flushes : ℕ) → row.buffer ≡ buffer → is_written s answer back ≡ false
+    ensures { (o : Opening) (m : Map) (first : Option FirstCause) (row : Row) (flushes : ℕ) → row.buffer ≡ buffer → is_written s answer back ≡ false
         → Tells result (λ bytes. last_piece o (plan_with g m) g.forced first row (Kind.Page start end) s bytes answer back flushes) }
 {
     let cause = FirstCause {
@@ -125,7 +126,7 @@ pub fn failed_write(
         outcome: Outcome::Unknown(range, cause),
         buf: crate::buffer_as(back, buffer, s.total),
         turn: crate::turn_back(back, s),
-        cause: Poisoned::First(cause),
+        cause: Some(cause),
     })
 }
 
@@ -133,7 +134,7 @@ pub fn failed_write(
 fn last_write(
     o: Opening,
     g: LiveRegion,
-    first: Poisoned,
+    first: Option<FirstCause>,
     row: Row,
     start: Position,
     end: Position,
@@ -165,7 +166,7 @@ fn last_write(
 pub fn last_piece(
     o: Opening,
     g: LiveRegion,
-    first: Poisoned,
+    first: Option<FirstCause>,
     row: Row,
     kind: Kind,
     s: Split,

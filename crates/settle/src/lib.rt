@@ -18,8 +18,8 @@ ghost use Rattle.std.specs.Prelude.{◌≡◌, ℕ, ◌-◌, List};
 ghost use Rattle.step.specs.Rules.{error_of, buffer_as, turned_back};
 ghost use Rattle.settle.specs.Finished.{turned_by};
 
-use completion::{Buffer, Outcome, Refusal};
-use domain::{OsError, Poisoned};
+use completion::{Held, Outcome, Refusal};
+use domain::{FirstCause, OsError};
 use model::{Awaits, Split};
 use platform::Answer;
 
@@ -34,9 +34,9 @@ pub struct Turn {
 #[derive(Clone, Copy)]
 pub struct End {
     pub outcome: Outcome,
-    pub buf: Buffer,
+    pub buf: Option<Held>,
     pub turn: Turn,
-    pub cause: Poisoned,
+    pub cause: Option<FirstCause>,
 }
 
 // What becomes of an operation (Finish of optable.rs, where a function has the name too): turned away; it awaits its next piece or its flush; it
@@ -44,31 +44,37 @@ pub struct End {
 #[derive(Clone, Copy)]
 pub enum Finished {
     Away(Refusal),
-    Next { awaits: Awaits, turn: Turn },
+    Next {
+        awaits: Awaits,
+        turn: Turn,
+    },
     Ended(End),
-    Rejected { raw: OsError, buf: Buffer },
+    Rejected {
+        raw: Option<OsError>,
+        buf: Option<Held>,
+    },
 }
 
 // The OS error of an answer, if there was one.
-pub fn error_of(answer: Answer) -> OsError
+pub fn error_of(answer: Answer) -> Option<OsError>
     ensures { result ≡ error_of answer }
 {
     match answer {
-        Answer::Count(_) => OsError::None,
-        Answer::Error { raw, media: _ } => OsError::Raw(raw),
-        Answer::Refused => OsError::None,
-        Answer::RefusedWith { raw, media: _ } => OsError::Raw(raw),
+        Answer::Count(_) => None,
+        Answer::Error { raw, .. } => Some(raw),
+        Answer::Refused => None,
+        Answer::RefusedWith { raw, .. } => Some(raw),
     }
 }
 
 // The buffer, if it came back, at a length.
-pub fn buffer_as(back: bool, buffer: u64, len: u64) -> Buffer
+pub fn buffer_as(back: bool, buffer: u64, len: u64) -> Option<Held>
     ensures { result ≡ buffer_as back buffer len }
 {
     if back {
-        Buffer::Back { buffer, len }
+        Some(Held { buffer, len })
     } else {
-        Buffer::Lost
+        None
     }
 }
 
@@ -76,11 +82,7 @@ pub fn buffer_as(back: bool, buffer: u64, len: u64) -> Buffer
 pub fn left(s: Split) -> u64
     ensures { result ≡ s.total - s.done }
 {
-    if s.done < s.total {
-        s.total - s.done
-    } else {
-        0
-    }
+    s.total.saturating_sub(s.done)
 }
 
 // The turn back to the first arrangement, by total - done; a lost buffer stays as it lies.

@@ -11,10 +11,9 @@ use Rattle.layout.proofs.Tests.{and_left, and_right}
 use Rattle.completion.specs.declared.Context.{Context}
 use Rattle.completion.specs.declared.Refusal.{Refusal}
 use Rattle.model.specs.declared.Request.{Request}
-use Rattle.model.specs.declared.Asked.{Asked}
-use Rattle.model.specs.declared.Asked.TheVariants.{Yes, No}
+use Rattle.std.specs.declared.result.Result.TheVariants.{Ok, Err}
 use Rattle.model.specs.State.{State}
-use Rattle.step.specs.Questions.{ask, first_no, handle_names_region, buffer_in_pool, host_holds_buffer, room_in_table, lifetime_left, length_above0, within_data, region_at, held_at, write_questions, read_questions}
+use Rattle.step.specs.Questions.{ask, first_no, handle_names_region, buffer_in_pool, host_holds_buffer, room_in_table, lifetime_left, length_above0, within_data, region_at, held_at, write_questions, read_questions, Asked}
 
 -- what both lists ask, in terms of the table
 pub record Passed (s : State) (q : Request) : Type 0 where
@@ -28,33 +27,33 @@ pub record Passed (s : State) (q : Request) : Type 0 where
   pub whole : q.offset.0 + q.length < 2 ^ 64
   pub in_data_lem : q.offset.0 + q.length ≤ (region_at s q.handle).map.data_length
 
-never : {A : Type 0} {f : Refusal} → No f ≡ Yes → A
+never : {A : Type 0} {f : Refusal} → ◌≡◌ {A = Asked} (Err f) (Ok tt) → A
 never e = let z : ◌≡◌ {A = ℕ} 0 1 = cc in absurd (omega arith)
 
-first : (a : Asked) (more : List Asked) → first_no (a ∷ more) ≡ Yes → a ≡ Yes
+first : (a : Asked) (more : List Asked) → first_no (a ∷ more) ≡ Ok tt → a ≡ Ok tt
 unfolding first_no
-first Yes more e = refl
-first (No f) more e = never e
+first (Ok _) more e = refl
+first (Err f) more e = never e
 
-rest : (a : Asked) (more : List Asked) → first_no (a ∷ more) ≡ Yes → first_no more ≡ Yes
+rest : (a : Asked) (more : List Asked) → first_no (a ∷ more) ≡ Ok tt → first_no more ≡ Ok tt
 unfolding first_no
-rest Yes more e = e
-rest (No f) more e = never e
+rest (Ok _) more e = e
+rest (Err f) more e = never e
 
-pub answered : (b : Bool) (f : Refusal) → ask b f ≡ Yes → b ≡ true
+pub answered : (b : Bool) (f : Refusal) → ask b f ≡ Ok tt → b ≡ true
 unfolding ask
 answered true f e = refl
 answered false f e = never e
 
 -- the questions that both lists have; the last two with a context of their own
 module _ (s : State) (q : Request) (c d : Context) where
-  passed : handle_names_region s.settings.regions q ≡ Yes
-      → buffer_in_pool s.settings.buffers s.settings.capacity c q ≡ Yes
-      → host_holds_buffer (held_at s q.buffer) c ≡ Yes
-      → room_in_table s.settings.depth s.counts c ≡ Yes
-      → lifetime_left s.settings.lifetime s.counts c ≡ Yes
-      → length_above0 d q ≡ Yes
-      → within_data (region_at s q.handle).map.data_length d q ≡ Yes
+  passed : handle_names_region s.settings.regions q ≡ Ok tt
+      → buffer_in_pool s.settings.buffers s.settings.capacity c q ≡ Ok tt
+      → host_holds_buffer (held_at s q.buffer) c ≡ Ok tt
+      → room_in_table s.settings.depth s.counts c ≡ Ok tt
+      → lifetime_left s.settings.lifetime s.counts c ≡ Ok tt
+      → length_above0 d q ≡ Ok tt
+      → within_data (region_at s q.handle).map.data_length d q ≡ Ok tt
       → Passed s q
   unfolding handle_names_region buffer_in_pool host_holds_buffer room_in_table lifetime_left length_above0 within_data
   passed e₁ e₂ e₃ e₄ e₅ e₁₂ e₁₄ =
@@ -73,7 +72,7 @@ module _ (s : State) (q : Request) (c d : Context) where
       }
 
 module _ (s : State) (q : Request) where
-  pub write_passed : first_no (write_questions s (region_at s q.handle) q) ≡ Yes → Passed s q
+  pub write_passed : first_no (write_questions s (region_at s q.handle) q) ≡ Ok tt → Passed s q
   unfolding write_questions
   write_passed e₁ =
       let e₂ = rest _ _ e₁ in
@@ -84,7 +83,7 @@ module _ (s : State) (q : Request) where
       let e₁₄ = rest _ _ (rest _ _ e₁₂) in
       passed s q _ _ (first _ _ e₁) (first _ _ e₂) (first _ _ e₃) (first _ _ e₄) (first _ _ e₅) (first _ _ e₁₂) (first _ _ e₁₄)
 
-  pub read_passed : first_no (read_questions s (region_at s q.handle) q) ≡ Yes → Passed s q
+  pub read_passed : first_no (read_questions s (region_at s q.handle) q) ≡ Ok tt → Passed s q
   unfolding read_questions
   read_passed e₁ =
       let e₂ = rest _ _ (rest _ _ (rest _ _ e₁)) in

@@ -12,7 +12,7 @@ use Rattle.layout.specs.Pick.{pick}
 use Rattle.layout.proofs.Tests.{not_both}
 use Rattle.iobuf.specs.Turn.{turned}
 use Rattle.domain.specs.declared.FirstCause.{FirstCause}
-use Rattle.domain.specs.declared.Poisoned.{Poisoned}
+use Rattle.std.specs.declared.option.Option.{Option}
 use Rattle.platform.specs.declared.Answer.{Answer}
 use Rattle.platform.specs.declared.Flushed.{Flushed}
 use Rattle.completion.specs.declared.Completion.{Completion}
@@ -30,13 +30,12 @@ use Rattle.model.specs.declared.Awaits.{Awaits}
 use Rattle.model.specs.declared.Awaits.TheVariants.{Nothing, Piece, Flush}
 use Rattle.model.specs.declared.Row.{Row}
 use Rattle.model.specs.declared.Request.{Request}
-use Rattle.model.specs.declared.Asked.{Asked}
-use Rattle.model.specs.declared.Asked.TheVariants.{Yes, No}
+use Rattle.std.specs.declared.result.Result.TheVariants.{Ok, Err}
 use Rattle.model.specs.declared.Call.{Call}
 use Rattle.model.specs.declared.Call.TheVariants.{Write, ReadPage, Answer as answer, Flushed as flushResult, Take, SetGate, SetReadOnly, SetForced, ReportPoison}
 use Rattle.model.specs.State.{State, Region, freed}
 use Rattle.model.specs.Opening.{Plan, among}
-use Rattle.step.specs.Questions.{ask, first_no, region_at, write_questions, read_questions}
+use Rattle.step.specs.Questions.{ask, first_no, region_at, write_questions, read_questions, Asked}
 use Rattle.step.specs.Rules.{first_of, error_of, buffer_as, split_after, piece_length, above_piece, first_refused, goes_on, is_written, written_as, last_piece, piece_answered, answer_rules, flush_rules, flush_ends, rules, Input, Input.answered, Input.flushed, Fate, Fate.away, Fate.awaits, Fate.ends, Fate.rejected}
 use Rattle.step.specs.Step.{start_of, end_of, top_of, verdict_of, write_verdict, read_verdict, accepted, submitted, row_at, row_of, is_live, names, bytes_at, awaits_now, going, freeing, plan_of, asks_for, rejection, settled, fate_of, under_tag, taken, marked, eq_lengths, called, step}
 use Rattle.step.specs.Laws.{SaysEach}
@@ -53,16 +52,16 @@ module _ (s : State) (t : ℕ) (r : Row) where
   Heard f = asked_by (settled s t r f).1
 
   -- the end of a piece after which none is issued
-  last_on : (o : Opening) (g : Plan) (forced : Bool) (first : Poisoned) (k : Kind) (sp : Split) (bytes : List ℕ) (x : Answer) (back : Bool) (flushes : ℕ)
-      → Heard (last_piece o g forced first r k sp bytes x back flushes) ≡ Yes
+  last_on : (o : Opening) (g : Plan) (forced : Bool) (first : Option FirstCause) (k : Kind) (sp : Split) (bytes : List ℕ) (x : Answer) (back : Bool) (flushes : ℕ)
+      → Heard (last_piece o g forced first r k sp bytes x back flushes) ≡ Ok tt
   unfolding last_piece written_as settled asks_for asked_by
   last_on o g forced first (Read a b) sp bytes x back flushes = refl
   last_on o g forced first (Page a b) sp bytes x back flushes =
-      by_pick (is_written sp x back) (λ (f : Fate). Heard f ≡ Yes)
-      (λ w. by_pick r.durable (λ (f : Fate). Heard f ≡ Yes) (λ d. by_pick (o.flush || forced) (λ (f : Fate). Heard f ≡ Yes) (λ z. refl) (λ z. refl)) (λ d. refl)) (λ w. refl)
+      by_pick (is_written sp x back) (λ (f : Fate). Heard f ≡ Ok tt)
+      (λ w. by_pick r.durable (λ (f : Fate). Heard f ≡ Ok tt) (λ d. by_pick (o.flush || forced) (λ (f : Fate). Heard f ≡ Ok tt) (λ z. refl) (λ z. refl)) (λ d. refl)) (λ w. refl)
 
   -- an answer, by what the row awaits
-  answer_heard : (o : Opening) (g : Plan) (forced : Bool) (first : Poisoned) (bytes : List ℕ) (x : Answer) (back : Bool) (flushes : ℕ) (a : Awaits) → r.awaits ≡ a
+  answer_heard : (o : Opening) (g : Plan) (forced : Bool) (first : Option FirstCause) (bytes : List ℕ) (x : Answer) (back : Bool) (flushes : ℕ) (a : Awaits) → r.awaits ≡ a
       → Heard (answer_rules o g forced first r bytes x back flushes a) ≡ first_no (ask (awaits_piece a) NotAwaited ∷ ask (at_most_piece g a x) AbovePiece ∷ [])
   unfolding answer_rules piece_answered settled asks_for rejection asked_by first_no ask awaits_piece at_most_piece pick
   answer_heard o g forced first bytes x back flushes Nothing e = refl
@@ -73,10 +72,10 @@ module _ (s : State) (t : ℕ) (r : Row) where
       on = pick (first_refused sp x) (rejected (error_of x) (buffer_as back r.buffer sp.total) bytes)
           (pick (goes_on (piece_length g k sp) sp x back) (awaits (Piece k (split_after (piece_length g k sp) sp)) (turned sp.total (piece_length g k sp) bytes)) (last_piece o g forced first r k sp bytes x back flushes))
 
-      goes_on_lem : Heard on ≡ Yes
+      goes_on_lem : Heard on ≡ Ok tt
       goes_on_lem =
-          by_pick (first_refused sp x) (λ (f : Fate). Heard f ≡ Yes) (λ refused. ap (λ (a : Awaits). asked_by (rejection (plan_of (region_at s r.handle)) a (error_of x) (buffer_as back r.buffer sp.total))) e)
-          (λ taken. by_pick (goes_on (piece_length g k sp) sp x back) (λ (f : Fate). Heard f ≡ Yes) (λ whole. refl) (λ over. last_on o g forced first k sp bytes x back flushes))
+          by_pick (first_refused sp x) (λ (f : Fate). Heard f ≡ Ok tt) (λ refused. ap (λ (a : Awaits). asked_by (rejection (plan_of (region_at s r.handle)) a (error_of x) (buffer_as back r.buffer sp.total))) e)
+          (λ taken. by_pick (goes_on (piece_length g k sp) sp x back) (λ (f : Fate). Heard f ≡ Ok tt) (λ whole. refl) (λ over. last_on o g forced first k sp bytes x back flushes))
 
       by_above : (b : Bool) → Heard (pick b (away AbovePiece) on) ≡ first_no (ask (not b) AbovePiece ∷ [])
       by_above true = refl
@@ -119,7 +118,7 @@ module _ (s : State) (l : Lengths) (t : ℕ) (same : eq_lengths l s.lengths ≡ 
 -- ---- what the reply asks for
 
 abbrev AsksIt : ℕ → State × Reply → Type 0
-AsksIt t z = asked_by z.1 ≡ Yes → names (row_at z.0 (row_of t)) t ≡ true
+AsksIt t z = asked_by z.1 ≡ Ok tt → names (row_at z.0 (row_of t)) t ≡ true
     → z.1 ≡ asks_for (plan_of (region_at z.0 (row_at z.0 (row_of t)).handle)) t (row_at z.0 (row_of t)).buffer (row_at z.0 (row_of t)).awaits
 
 module _ (s : State) (t : ℕ) (r : Row) (named : names r t ≡ true) (here : row_at s (row_of t) ≡ r) where
@@ -150,7 +149,7 @@ answer_asks s l t a back flushes =
     by_pick (eq_lengths l s.lengths) (AsksIt t)
     (λ same. by_pick (names row t) (AsksIt t) (λ named. settled_asks s t row named refl (fate_of s row (answered a back flushes))) (λ unnamed e live. clash (cc))) (λ other e live. clash (cc))
 
-flush_done_lem : (s : State) (l : Lengths) (t : ℕ) (result : Flushed) → asked_by (step s l (flushResult t result)).1 ≡ Yes → (step s l (flushResult t result)).1 ≡ Done t
+flush_done_lem : (s : State) (l : Lengths) (t : ℕ) (result : Flushed) → asked_by (step s l (flushResult t result)).1 ≡ Ok tt → (step s l (flushResult t result)).1 ≡ Done t
 unfolding step called under_tag fate_of rules flush_rules flush_ends settled asked_by
 flush_done_lem s l t result = by_pick (eq_lengths l s.lengths) Finishes (λ same. by_pick (names row t) Finishes (λ named. by_awaits row.awaits) (λ unnamed e. clash (cc))) (λ other e. clash (cc))
   where
@@ -158,7 +157,7 @@ flush_done_lem s l t result = by_pick (eq_lengths l s.lengths) Finishes (λ same
     row = row_at s (row_of t)
 
     Finishes : State × Reply → Type 0
-    Finishes z = asked_by z.1 ≡ Yes → z.1 ≡ Done t
+    Finishes z = asked_by z.1 ≡ Ok tt → z.1 ≡ Done t
 
     by_awaits : (a : Awaits) → Finishes (settled s t row (flush_rules s.settings row (bytes_at s row.buffer) result a))
     by_awaits Nothing e = clash (cc)
@@ -175,18 +174,18 @@ module _ (s : State) (l : Lengths) (same : eq_lengths l s.lengths ≡ true) wher
 
   verdict_asked : (q : Request) (k : Kind) (a : Asked) → asked_by (submitted s q (verdict_of a s k q)).1 ≡ a
   unfolding submitted verdict_of asked_by
-  verdict_asked q k (No f) = refl
-  verdict_asked q k Yes = refl
+  verdict_asked q k (Err f) = refl
+  verdict_asked q k (Ok _) = refl
 
   marked_asked : (h : ℕ) (g : Region) → asked_by (marked s h g).1 ≡ ask (ltb h s.settings.regions) (ForeignPosition bare)
   unfolding marked pick ask asked_by
   marked_asked h g = by_known (ltb h s.settings.regions) _ refl
     where
-      by_known : (b : Bool) (z : State × Reply) → asked_by z.1 ≡ Yes → asked_by (pick b z (s, turnedAway (ForeignPosition bare))).1 ≡ ask b (ForeignPosition bare)
+      by_known : (b : Bool) (z : State × Reply) → asked_by z.1 ≡ Ok tt → asked_by (pick b z (s, turnedAway (ForeignPosition bare))).1 ≡ ask b (ForeignPosition bare)
       by_known true z said = said
       by_known false z said = refl
 
-  taken_asked : (cs : List Completion) → asked_by (taken s cs).1 ≡ Yes
+  taken_asked : (cs : List Completion) → asked_by (taken s cs).1 ≡ Ok tt
   unfolding taken asked_by
   taken_asked [] = refl
   taken_asked (c ∷ more) = refl
@@ -199,12 +198,12 @@ module _ (s : State) (l : Lengths) (same : eq_lengths l s.lengths ≡ true) wher
   unfolding called read_verdict
   read_asked q = ap (λ (z : State × Reply). asked_by z.1) (called_is (ReadPage q)) ∙ verdict_asked q _ _
 
-  write_accepted : (q : Request) → first_no (write_questions s (region_at s q.handle) q) ≡ Yes
+  write_accepted : (q : Request) → first_no (write_questions s (region_at s q.handle) q) ≡ Ok tt
       → step s l (Write q) ≡ (accepted s (top_of s.free) (Page (start_of q) (end_of q)) q, first_reply s (Page (start_of q) (end_of q)) q)
   unfolding called write_verdict submitted verdict_of first_reply asks_for plan_of piece_length first_of
   write_accepted q e = called_is (Write q) ∙ ap (λ (a : Asked). submitted s q (verdict_of a s (Page (start_of q) (end_of q)) q)) e
 
-  read_accepted : (q : Request) → first_no (read_questions s (region_at s q.handle) q) ≡ Yes
+  read_accepted : (q : Request) → first_no (read_questions s (region_at s q.handle) q) ≡ Ok tt
       → step s l (ReadPage q) ≡ (accepted s (top_of s.free) (Read (start_of q) (end_of q)) q, first_reply s (Read (start_of q) (end_of q)) q)
   unfolding called read_verdict submitted verdict_of first_reply asks_for plan_of piece_length first_of
   read_accepted q e = called_is (ReadPage q) ∙ ap (λ (a : Asked). submitted s q (verdict_of a s (Read (start_of q) (end_of q)) q)) e
@@ -224,11 +223,11 @@ module _ (s : State) (l : Lengths) (same : eq_lengths l s.lengths ≡ true) wher
   set_asked : (c : Call) (h : ℕ) → sets_mark c ≡ some h → asked_by (step s l c).1 ≡ ask (ltb h s.settings.regions) (ForeignPosition bare)
   set_asked c h e = ap (λ (z : State × Reply). asked_by z.1) (called_is c) ∙ set_called c h e
 
-  take_asked : asked_by (step s l Take).1 ≡ Yes
+  take_asked : asked_by (step s l Take).1 ≡ Ok tt
   unfolding called
   take_asked = ap (λ (z : State × Reply). asked_by z.1) (called_is Take) ∙ taken_asked s.ready
 
-  report_asked : (cause : FirstCause) → asked_by (step s l (ReportPoison cause)).1 ≡ Yes
+  report_asked : (cause : FirstCause) → asked_by (step s l (ReportPoison cause)).1 ≡ Ok tt
   unfolding called asked_by
   report_asked cause = ap (λ (z : State × Reply). asked_by z.1) (called_is (ReportPoison cause))
 

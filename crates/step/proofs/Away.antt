@@ -3,8 +3,8 @@ use mathlib.Core.Path.{◌≡◌, refl, ap}
 use mathlib.Core.Bool.{false}
 use Prim.Native.Nat.{ℕ}
 use Rattle.layout.proofs.Tests.{not_both}
-use Rattle.domain.specs.declared.OsError.{OsError}
-use Rattle.completion.specs.declared.Buffer.{Buffer}
+use Rattle.std.specs.declared.option.Option.{Option}
+use Rattle.completion.specs.Buffers.{Buffer}
 use Rattle.completion.specs.declared.Refusal.{Refusal}
 use Rattle.completion.specs.declared.Reply.{Reply}
 use Rattle.completion.specs.declared.Reply.TheVariants.{No as turnedAway}
@@ -34,7 +34,7 @@ asks g t b Nothing = refl
 asks g t b (Piece k s) = refl
 asks g t b (Flush ticket) = refl
 
-pub rejects : (g : Plan) (a : Awaits) (e : OsError) (b : Buffer) → AwaitsPiece a → is_away (rejection g a e b) ≡ false
+pub rejects : (g : Plan) (a : Awaits) (e : Option ℕ) (b : Buffer) → AwaitsPiece a → is_away (rejection g a e b) ≡ false
 unfolding is_away rejection AwaitsPiece
 rejects g Nothing e b p = absurd p
 rejects g (Piece k s) e b p = refl

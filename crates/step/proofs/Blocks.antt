@@ -12,9 +12,9 @@ use lib.Seq.{set_out}
 use Rattle.layout.specs.Block.{on_block}
 use Rattle.layout.proofs.Tests.{and_left, and_right, and_both}
 use Rattle.regionmap.specs.Words.{runs_in, map_in}
-use Rattle.domain.specs.declared.OsError.{OsError}
+use Rattle.std.specs.declared.option.Option.{Option}
 use Rattle.completion.specs.declared.Context.{Context}
-use Rattle.completion.specs.declared.Buffer.{Buffer}
+use Rattle.completion.specs.Buffers.{Buffer}
 use Rattle.completion.specs.declared.Completion.{Completion}
 use Rattle.completion.specs.declared.Reply.{Reply}
 use Rattle.model.specs.declared.Opening.{Opening}
@@ -24,8 +24,7 @@ use Rattle.model.specs.declared.Awaits.{Awaits}
 use Rattle.model.specs.declared.Awaits.TheVariants.{Nothing, Piece, Flush}
 use Rattle.model.specs.declared.Row.{Row}
 use Rattle.model.specs.declared.Request.{Request}
-use Rattle.model.specs.declared.Asked.{Asked}
-use Rattle.model.specs.declared.Asked.TheVariants.{Yes, No}
+use Rattle.std.specs.declared.result.Result.TheVariants.{Ok, Err}
 use Rattle.model.specs.declared.Lookup.{Lookup}
 use Rattle.model.specs.declared.Lookup.TheVariants.{WritesLive, Mark}
 use Rattle.model.specs.declared.Call.{Call}
@@ -33,7 +32,7 @@ use Rattle.model.specs.declared.Call.TheVariants.{Write, ReadPage, Answer, Flush
 use Rattle.model.specs.State.{Region, State, freed}
 use Rattle.model.specs.Opening.{Plan, plan_in, generation_rule, runs_rule, sizes_rule, starts_rule, runs_on_block, blocks_rule, map_rule, region_rule, each_region, region_rules, opened}
 use Rattle.model.proofs.Rules.{head_true, regions_hold}
-use Rattle.step.specs.Questions.{first_no, aligned, region_at, write_questions, read_questions}
+use Rattle.step.specs.Questions.{first_no, aligned, region_at, write_questions, read_questions, Asked}
 use Rattle.step.specs.Rules.{first_of, Input, Input.answered, Input.flushed, Fate, Fate.away, Fate.awaits, Fate.ends, Fate.rejected}
 use Rattle.step.specs.Step.{begun, row_at, claimed_by, accepted, verdict_of, write_verdict, read_verdict, submitted, row_of, names, awaits_now, going, freeing, plan_of, rejection, settled, fate_of, under_tag}
 use Rattle.step.specs.Step.{taken, with_regions, with_poison, marked, looked_up, called, eq_lengths, step, look}
@@ -59,28 +58,28 @@ set_keeps P l k x d new each = by_case (dec_lt k (length l))
 -- ---- question 13
 
 -- where the first no of a list is none, each is answered yes
-yes_at : (l : List Asked) (k : ℕ) → first_no l ≡ Yes → get_or l k Yes ≡ Yes
+yes_at : (l : List Asked) (k : ℕ) → first_no l ≡ Ok tt → get_or l k (Ok tt) ≡ Ok tt
 unfolding first_no
 yes_at [] k e = refl
-yes_at (Yes ∷ more) zero e = refl
-yes_at (Yes ∷ more) (suc k) e = yes_at more k e
-yes_at (No f ∷ more) k e = clash (cc)
+yes_at (Ok _ ∷ more) zero e = refl
+yes_at (Ok _ ∷ more) (suc k) e = yes_at more k e
+yes_at (Err f ∷ more) k e = clash (cc)
 
 -- a request's offset and length are on the block
 abbrev RangeOn : ℕ → Request → Type 0
 RangeOn b q = On b q.offset.0 × On b q.length
 
-aligned_on : (b : ℕ) (c : Context) (q : Request) → aligned b c q ≡ Yes → RangeOn b q
+aligned_on : (b : ℕ) (c : Context) (q : Request) → aligned b c q ≡ Ok tt → RangeOn b q
 unfolding aligned
 aligned_on b c q e =
     let both = asked-yes (on_block b q.offset.0 && on_block b q.length) _ e in
     (and_left (on_block b q.offset.0) _ both, and_right (on_block b q.offset.0) _ both)
 
-write_on : (s : State) (q : Request) → first_no (write_questions s (region_at s q.handle) q) ≡ Yes → RangeOn s.settings.block q
+write_on : (s : State) (q : Request) → first_no (write_questions s (region_at s q.handle) q) ≡ Ok tt → RangeOn s.settings.block q
 unfolding write_questions
 write_on s q e = aligned_on s.settings.block _ q (yes_at _ 12 e)
 
-read_on : (s : State) (q : Request) → first_no (read_questions s (region_at s q.handle) q) ≡ Yes → RangeOn s.settings.block q
+read_on : (s : State) (q : Request) → first_no (read_questions s (region_at s q.handle) q) ≡ Ok tt → RangeOn s.settings.block q
 unfolding read_questions
 read_on s q e = aligned_on s.settings.block _ q (yes_at _ 9 e)
 
@@ -94,7 +93,7 @@ RowsOn b s = (r : ℕ) → AwaitsOn b (row_at s r).awaits
 abbrev LeavesOn : ℕ → State × Reply → Type 0
 LeavesOn b z = RowsOn b z.0 × ReplyOn b z.1
 
-rejection_on : (b : ℕ) (g : Plan) (a : Awaits) (e : OsError) (buffer : Buffer) → ReplyOn b (rejection g a e buffer)
+rejection_on : (b : ℕ) (g : Plan) (a : Awaits) (e : Option ℕ) (buffer : Buffer) → ReplyOn b (rejection g a e buffer)
 unfolding ReplyOn rejection
 rejection_on b g Nothing e buffer = tt
 rejection_on b g (Piece k sp) e buffer = tt
@@ -106,10 +105,10 @@ module _ (b : ℕ) (s : State) (block : s.settings.block ≡ b) (maps : (h : ℕ
   unfolding row_at
   row_on new o k = set_keeps (λ (x : Row). AwaitsOn b x.awaits) s.rows k new (freed 0) o rows
 
-  submitted_on : (q : Request) (k : Kind) → first_of k ≡ q.offset → (a : Asked) → (a ≡ Yes → RangeOn s.settings.block q) → LeavesOn b (submitted s q (verdict_of a s k q))
+  submitted_on : (q : Request) (k : Kind) → first_of k ≡ q.offset → (a : Asked) → (a ≡ Ok tt → RangeOn s.settings.block q) → LeavesOn b (submitted s q (verdict_of a s k q))
   unfolding submitted verdict_of accepted row_at claimed_by AwaitsOn ReplyOn
-  submitted_on q k first (No f) passes = (rows, tt)
-  submitted_on q k first Yes passes =
+  submitted_on q k first (Err f) passes = (rows, tt)
+  submitted_on q k first (Ok _) passes =
       let range : RangeOn b q = rw block at (passes refl) in
       let split : SplitOn b q.offset.0 (begun q.length) = record { first = range.0; total = range.1; done = on_zero b } in
       (row_on _ (rw first split) _, piece_on b (region_at s q.handle).map (maps q.handle) q.offset.0 (begun q.length) split)

@@ -9,28 +9,27 @@ use Rattle.domain.specs.declared.FirstCause.{FirstCause}
 use Rattle.domain.specs.Domain.{first_kept}
 use Rattle.completion.specs.declared.Completion.{Completion}
 use Rattle.completion.specs.declared.Reply.{Reply}
-use Rattle.completion.specs.declared.Reply.TheVariants.{Ok}
+use Rattle.completion.specs.declared.Reply.TheVariants.{Ok as ok}
 use Rattle.model.specs.declared.Lengths.{Lengths}
 use Rattle.model.specs.declared.Kind.{Kind}
 use Rattle.model.specs.declared.Request.{Request}
-use Rattle.model.specs.declared.Verdict.{Verdict}
-use Rattle.model.specs.declared.Verdict.TheVariants.{No as refuses, Accept}
+use Rattle.std.specs.declared.result.Result.TheVariants.{Ok, Err}
 use Rattle.model.specs.declared.Call.{Call}
 use Rattle.model.specs.declared.Call.TheVariants.{Write, ReadPage, Answer, Flushed, Take, SetGate, SetReadOnly, SetForced, ReportPoison}
 use Rattle.model.specs.State.{Region, State}
 use Rattle.step.specs.Questions.{region_at}
 use Rattle.step.specs.Rules.{Input, Input.answered, Input.flushed}
-use Rattle.step.specs.Step.{row_at, submitted, write_verdict, read_verdict, row_of, names, plan_of, settled, fate_of, under_tag, taken}
+use Rattle.step.specs.Step.{row_at, submitted, write_verdict, read_verdict, row_of, names, plan_of, settled, fate_of, under_tag, taken, Verdict}
 use Rattle.step.specs.Step.{with_regions, with_poison, marked, with_gate, with_read_only, with_forced, called, eq_lengths, step}
 use Rattle.step.proofs.Picked.{by_pick}
 
-module _ (s : State) (P : State × Reply → Type 0) (stays : (x : Reply) → P (s, x)) (accepts : (q : Request) (r : ℕ) (k : Kind) (p : FoundPiece) → P (submitted s q (Accept r k p)))
+module _ (s : State) (P : State × Reply → Type 0) (stays : (x : Reply) → P (s, x)) (accepts : (q : Request) (r : ℕ) (k : Kind) (p : FoundPiece) → P (submitted s q (Ok (record { row = r; kind = k; piece = p }))))
     (settles : (t : ℕ) (i : Input) → P (settled s t (row_at s (row_of t)) (fate_of s (row_at s (row_of t)) i))) (takes : (c : Completion) (more : List Completion) → P (taken s (c ∷ more)))
-    (marks : (h : ℕ) (g : Region) → plan_of g ≡ plan_of (region_at s h) → P (with_regions s (set s.regions h g), Ok)) (reports : (cause : FirstCause) → P (with_poison s (first_kept s.poison cause), Ok)) where
+    (marks : (h : ℕ) (g : Region) → plan_of g ≡ plan_of (region_at s h) → P (with_regions s (set s.regions h g), ok)) (reports : (cause : FirstCause) → P (with_poison s (first_kept s.poison cause), ok)) where
   by_verdict : (q : Request) (v : Verdict) → P (submitted s q v)
   unfolding submitted
-  by_verdict q (refuses f) = stays _
-  by_verdict q (Accept r k p) = accepts q r k p
+  by_verdict q (Err f) = stays _
+  by_verdict q (Ok a) = accepts q a.row a.kind a.piece
 
   by_tag : (t : ℕ) (i : Input) → P (under_tag s t i)
   unfolding under_tag

@@ -13,7 +13,8 @@ use Rattle.layout.specs.Pick.{pick}
 use Rattle.layout.proofs.Tests.{not_both}
 use Rattle.regionmap.specs.Map.{place}
 use Rattle.posix.specs.Posix.{Card}
-use Rattle.domain.specs.declared.Poisoned.{Poisoned}
+use Rattle.std.specs.declared.option.Option.{Option as StdOption}
+use Rattle.domain.specs.declared.FirstCause.{FirstCause}
 use Rattle.model.specs.declared.Awaits.{Awaits}
 use Rattle.model.specs.declared.Awaits.TheVariants.{Nothing, Piece, Flush}
 use Rattle.model.specs.declared.Kind.TheVariants.{Page, Read}
@@ -99,7 +100,7 @@ module _ (x : Start) where
 
 -- ---- a byte that one open write is mapped to
 
-module _ (x : Start) (forced : ℕ → Bool) (first : Poisoned) (y : ℕ) where
+module _ (x : Start) (forced : ℕ → Bool) (first : StdOption FirstCause) (y : ℕ) where
   unfoldable pub byte_of : Course → Given → ℕ → ℕ
   byte_of (is_open g r bytes) v old = wrote_by g r.awaits bytes (some v.0) (λ z. old) y
   byte_of (completed c) v old = old
@@ -114,7 +115,7 @@ module _ (x : Start) (forced : ℕ → Bool) (first : Poisoned) (y : ℕ) where
   byte_append c [] ws old = refl
   byte_append c (v ∷ vs) ws old = byte_append (fed_by x forced first c v) vs ws (byte_of c v old)
 
-module _ (x : Start) (s : State) (a : Alones) (k : Reached x s a) (e : Event) (w : HostMay s e.leaves) (forced : ℕ → Bool) (first : Poisoned) (card : Card) (y : ℕ) where
+module _ (x : Start) (s : State) (a : Alones) (k : Reached x s a) (e : Event) (w : HostMay s e.leaves) (forced : ℕ → Bool) (first : StdOption FirstCause) (card : Card) (y : ℕ) where
   abbrev s₁ : State
   s₁ = leave s e.leaves
 
@@ -203,7 +204,7 @@ module _ (x : Start) (s : State) (a : Alones) (k : Reached x s a) (e : Event) (w
           by_reply true q = ap along (sym (away_none (brought t e.made)))
           by_reply false q = heard_byte q (brought (tag_in e.made) e.made) refl
 
-pub hot : (x : Start) (forced : ℕ → Bool) (first : Poisoned) (y r g t : ℕ) → row_of t ≡ r → generation_of t ≡ g → (l : List Event) (s : State) (a : Alones) → Reached x s a → Fits s l → a.forced ≡ forced
+pub hot : (x : Start) (forced : ℕ → Bool) (first : StdOption FirstCause) (y r g t : ℕ) → row_of t ≡ r → generation_of t ≡ g → (l : List Event) (s : State) (a : Alones) → Reached x s a → Fits s l → a.forced ≡ forced
     → a.first ≡ first → (card : Card) → Clear (λ j. j ≢ r) s y → Turned g (row_at s r) → (c : Course) → a.ops t ≡ some c → card_after s l card y ≡ byte_along x forced first y c (given s l t) (card y)
 unfolding card_after given byte_along
 hot x forced first y r g t at gen [] s a k f fo fi card clear turned c op = refl

@@ -11,7 +11,7 @@ use borrow.Author.Tests.{eq-eqb, ne_eqb}
 use lib.Dec.{eqb}
 use lib.ListN.{length, get_or, set, replicate}
 use Rattle.layout.specs.Pick.{pick}
-use Rattle.completion.specs.declared.Buffer.TheVariants.{Back}
+use Rattle.std.specs.declared.option.Option.TheVariants.{Some as Back}
 use Rattle.completion.specs.declared.Completion.{Completion}
 use Rattle.model.specs.declared.Row.{Row}
 use Rattle.model.specs.State.{Owner, Owner.host, Owner.table, Owner.lost, freed, up_from, awaiting, live_rows}
@@ -57,11 +57,11 @@ unfolding ready_hold
 ready_join b [] ys = omega arith
 ready_join b (x ∷ xs) ys = omega (arith, ready_join b xs ys)
 
-pub back_holds_own : (b n : ℕ) → holds b (Back b n) ≡ 1
+pub back_holds_own : (b n : ℕ) → holds b (Back (record { buffer = b; len = n })) ≡ 1
 unfolding holds pick
 back_holds_own b n = rw (eq-eqb b b refl)
 
-pub back_holds_other : (b k n : ℕ) → b ≢ k → holds b (Back k n) ≡ 0
+pub back_holds_other : (b k n : ℕ) → b ≢ k → holds b (Back (record { buffer = k; len = n })) ≡ 0
 unfolding holds pick
 back_holds_other b k n ne = rw (ne_eqb k b (λ e. ne (sym e)))
 

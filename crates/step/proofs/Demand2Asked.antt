@@ -9,8 +9,8 @@ use Prim.Native.Nat.{ℕ}
 use borrow.Author.Tests.{eq-eqb, ne_eqb}
 use lib.Dec.{eqb, ltb}
 use Rattle.layout.specs.Pick.{pick}
-use Rattle.domain.specs.declared.OsError.{OsError}
-use Rattle.completion.specs.declared.Buffer.{Buffer}
+use Rattle.std.specs.declared.option.Option.{Option as StdOption}
+use Rattle.completion.specs.Buffers.{Buffer}
 use Rattle.completion.specs.declared.Completion.{Completion}
 use Rattle.completion.specs.declared.Reply.{Reply}
 use Rattle.model.specs.declared.Lengths.{Lengths}
@@ -21,13 +21,12 @@ use Rattle.model.specs.declared.Awaits.{Awaits}
 use Rattle.model.specs.declared.Awaits.TheVariants.{Nothing, Piece, Flush}
 use Rattle.model.specs.declared.Row.{Row}
 use Rattle.model.specs.declared.Request.{Request}
-use Rattle.model.specs.declared.Asked.{Asked}
-use Rattle.model.specs.declared.Asked.TheVariants.{Yes, No}
+use Rattle.std.specs.declared.result.Result.TheVariants.{Ok, Err}
 use Rattle.model.specs.declared.Call.{Call}
 use Rattle.model.specs.declared.Call.TheVariants.{Write, ReadPage, Answer, Flushed, Take, SetGate, SetReadOnly, SetForced, ReportPoison}
 use Rattle.model.specs.State.{State, Region}
 use Rattle.model.specs.Opening.{Plan}
-use Rattle.step.specs.Questions.{region_at}
+use Rattle.step.specs.Questions.{region_at, Asked}
 use Rattle.step.specs.Rules.{Input, Input.answered, Input.flushed, Fate, Fate.away, Fate.awaits, Fate.ends, Fate.rejected}
 use Rattle.step.specs.Step.{begun, top_of, row_at, row_of, names, plan_of, claimed_by, awaits_now, submitted, verdict_of, write_verdict, read_verdict, going, freeing, asks_for, rejection, settled, fate_of, under_tag, taken}
 use Rattle.step.specs.Step.{marked, with_gate, with_read_only, with_forced, called, looked_up, eq_lengths, step, look}
@@ -60,7 +59,7 @@ module _ (s : State) (sound : Sound s) (t : ℕ) (named : names (row_at s (row_o
   abbrev Silent : State × Reply → Type 0
   Silent z = under t z.1 ≡ false
 
-  rejection_silent : (g : Plan) (a : Awaits) (e : OsError) (b : Buffer) → under t (rejection g a e b) ≡ false
+  rejection_silent : (g : Plan) (a : Awaits) (e : StdOption ℕ) (b : Buffer) → under t (rejection g a e b) ≡ false
   unfolding under rejection
   rejection_silent g Nothing e b = refl
   rejection_silent g (Piece k sp) e b = refl
@@ -78,10 +77,10 @@ module _ (s : State) (sound : Sound s) (t : ℕ) (named : names (row_at s (row_o
   under_silent u n i = by_pick (names (row_at s (row_of u)) u) Silent (λ here. settled_silent u n (row_at s (row_of u)) (fate_of s (row_at s (row_of u)) i)) (λ unnamed. refl)
 
   -- a new tag is that of a row that was free
-  submitted_silent : (q : Request) (k : Kind) (a : Asked) → (a ≡ Yes → Passed s q) → Silent (submitted s q (verdict_of a s k q))
+  submitted_silent : (q : Request) (k : Kind) (a : Asked) → (a ≡ Ok tt → Passed s q) → Silent (submitted s q (verdict_of a s k q))
   unfolding under submitted verdict_of
-  submitted_silent q k (No f) passes = refl
-  submitted_silent q k Yes passes =
+  submitted_silent q k (Err f) passes = refl
+  submitted_silent q k (Ok _) passes =
       let passed = passes refl in
       ne_eqb _ t (λ e. not_top s sound t named q passed (ap row_of (sym e) ∙ row_of_tag (top_of s.free) (row_at s (top_of s.free)).generation (small_row s sound (top_of s.free) (top_row s sound passed.room))))
 

@@ -21,12 +21,11 @@ use Rattle.model.specs.declared.Kind.TheVariants.{Page, Read}
 use Rattle.model.specs.declared.Lengths.{Lengths}
 use Rattle.model.specs.declared.Row.{Row}
 use Rattle.model.specs.declared.Request.{Request}
-use Rattle.model.specs.declared.Asked.{Asked}
-use Rattle.model.specs.declared.Asked.TheVariants.{Yes, No}
+use Rattle.std.specs.declared.result.Result.TheVariants.{Ok, Err}
 use Rattle.model.specs.declared.Call.TheVariants.{Write, ReadPage}
 use Rattle.model.specs.State.{State, freed}
 use Rattle.model.specs.Opening.{Plan}
-use Rattle.step.specs.Questions.{region_at}
+use Rattle.step.specs.Questions.{region_at, Asked}
 use Rattle.step.specs.Rules.{first_of, last_of, piece_of, piece_length}
 use Rattle.step.specs.Step.{start_of, end_of, begun, durable_as, queue_tag, top_of, row_at, row_of, generation_of, is_live, bytes_at, plan_of, asks_for, claimed_by, accepted, submitted, verdict_of, write_verdict, read_verdict, called, eq_lengths, step}
 use Rattle.step.specs.Sound.{Sound}
@@ -59,10 +58,10 @@ pub record Begun (s : State) (q : Request) (k : Kind) (t : ℕ) (z : State × Re
   pub tag : queue_tag (top_of s.free) (row_at s (top_of s.free)).generation ≡ t
 
 module _ (s : State) (q : Request) (t : ℕ) where
-  begun_by_lem : (k : Kind) → first_of k ≡ q.offset → (a : Asked) → (a ≡ Yes → Passed s q) → tag_given (submitted s q (verdict_of a s k q)).1 ≡ some t → Begun s q k t (submitted s q (verdict_of a s k q))
+  begun_by_lem : (k : Kind) → first_of k ≡ q.offset → (a : Asked) → (a ≡ Ok tt → Passed s q) → tag_given (submitted s q (verdict_of a s k q)).1 ≡ some t → Begun s q k t (submitted s q (verdict_of a s k q))
   unfolding submitted verdict_of tag_given first_reply asks_for plan_of piece_length
-  begun_by_lem k first (No f) passes e = clash (cc)
-  begun_by_lem k first Yes passes e = record { passed = passes refl; state = refl; reply = ap (λ (p : Position). let f = piece_of (region_at s q.handle).map p.0 (begun q.length) in Piece (queue_tag (top_of s.free) (row_at s (top_of s.free)).generation) f.offset f.count q.buffer) (sym first); tag = cc }
+  begun_by_lem k first (Err f) passes e = clash (cc)
+  begun_by_lem k first (Ok _) passes e = record { passed = passes refl; state = refl; reply = ap (λ (p : Position). let f = piece_of (region_at s q.handle).map p.0 (begun q.length) in Piece (queue_tag (top_of s.free) (row_at s (top_of s.free)).generation) f.offset f.count q.buffer) (sym first); tag = cc }
 
   pub begun_write : (l : Lengths) → tag_given (done s l (calls (Write q))).1 ≡ some t → Begun s q (Page (start_of q) (end_of q)) t (done s l (calls (Write q)))
   unfolding done step called write_verdict tag_given first_of

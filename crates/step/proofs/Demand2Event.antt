@@ -22,7 +22,7 @@ use Rattle.completion.specs.declared.Reply.{Reply}
 use Rattle.completion.specs.declared.Reply.TheVariants.{Piece as pieceReply, No as turnedAway, Rejected, Done, Flush as flushAsked, Took, None as noneReady, Ok, Writes, Mark}
 use Rattle.completion.specs.declared.Outcome.{Outcome}
 use Rattle.completion.specs.declared.Outcome.TheVariants.{Read as readTo}
-use Rattle.completion.specs.declared.Buffer.TheVariants.{Back}
+use Rattle.std.specs.declared.option.Option.TheVariants.{Some as Back}
 use Rattle.completion.specs.declared.Completion.{Completion}
 use Rattle.completion.specs.declared.WriteTicket.{WriteTicket}
 use Rattle.model.specs.declared.Opening.{Opening}
@@ -124,7 +124,7 @@ Arrived w card = (i : ℕ) → i < w.request.length → w.watched i ≡ true →
 
 -- the completion, of the table s as it leaves it, by the flush count last given and the flush result, if there was one
 pub record Finished (w : Task) (s : State) (flushes : ℕ) (result : Option Flushed) (c : Completion) : Type 0 where
-  pub buf : c.buf ≡ Back w.request.buffer w.request.length
+  pub buf : c.buf ≡ Back (record { buffer = w.request.buffer; len = w.request.length })
   pub tag : c.tag ≡ w.request.tag
   pub outcome : pages w.kind ≡ false → c.outcome ≡ readTo w.request.length
   pub wrote : pages w.kind ≡ true → c.outcome ≡ written_to w.opening s.poison w.request.durable (ticket_of w.opening w.plan w.kind flushes) result
@@ -380,22 +380,22 @@ module _ (w : Task) (s : State) (card : Card) (d given : ℕ) (o : Open w s card
           (subst (λ (l : List Given). Counts w d given l d' n') (sym given_is) counts)
 
       -- it completes
-      ends_with : (x : Outcome) (n : ℕ) (bytes : List ℕ) → f ≡ ends (record { outcome = x; buffer = Back r.buffer n; bytes = bytes; cause = none }) → n ≡ w.request.length → bytes ≡ w.new ++ w.tail
+      ends_with : (x : Outcome) (n : ℕ) (bytes : List ℕ) → f ≡ ends (record { outcome = x; buffer = Back (record { buffer = r.buffer; len = n }); bytes = bytes; cause = none }) → n ≡ w.request.length → bytes ≡ w.new ++ w.tail
           → (pages w.kind ≡ false → x ≡ readTo w.request.length) → (pages w.kind ≡ true → x ≡ written_to w.opening s.poison w.request.durable (ticket_of w.opening w.plan w.kind (count_given given ((i, left_in left r) ∷ []))) (result_given ((i, left_in left r) ∷ [])))
           → (pages w.kind ≡ true → w.request.durable ≡ true → result_given ((i, left_in left r) ∷ []) ≡ none → w.opening.flush || (region_at s w.request.handle).forced ≡ false)
           → Arrived w (card_by s e card) → drop (answers_in ((i, left_in left r) ∷ [])) (rest w d) ≡ [] → Came w s card d given e
       unfolding settled freeing Fitting completion_of with_bytes added_by names leave poison_with region_at
       ends_with x n bytes q all new outcome wrote policy arrived none_left =
-          let to = (settled left t r (ends (record { outcome = x; buffer = Back r.buffer n; bytes = bytes; cause = none }))).0 in
-          let z = next_is (ends (record { outcome = x; buffer = Back r.buffer n; bytes = bytes; cause = none })) q in
+          let to = (settled left t r (ends (record { outcome = x; buffer = Back (record { buffer = r.buffer; len = n }); bytes = bytes; cause = none }))).0 in
+          let z = next_is (ends (record { outcome = x; buffer = Back (record { buffer = r.buffer; len = n }); bytes = bytes; cause = none })) q in
           let gone = freed (raised r.generation) in
-          let c = completion_of r x (Back r.buffer n) in
+          let c = completion_of r x (Back (record { buffer = r.buffer; len = n })) in
           let ch : Changed left to (row_of t) r.buffer gone bytes = record { settings = refl; regions = refl; rows = refl; pool = refl } in
-          let long : length bytes ≡ left.settings.capacity = (fits (ends (record { outcome = x; buffer = Back r.buffer n; bytes = bytes; cause = none })) q).1 ∙ bytes_length left sound_left r.buffer in_pool_lem in
+          let long : length bytes ≡ left.settings.capacity = (fits (ends (record { outcome = x; buffer = Back (record { buffer = r.buffer; len = n }); bytes = bytes; cause = none })) q).1 ∙ bytes_length left sound_left r.buffer in_pool_lem in
           let row : row_at (next s e) (row_of t) ≡ gone = ap (λ (y : State). row_at y (row_of t)) z ∙ row_here left to (row_of t) r.buffer gone bytes ch in_rows in
           let there : bytes_at (next s e) b ≡ bytes = (λ j. bytes_at (z j) (sym o.in_row.buffer j)) ∙ bytes_here left to (row_of t) r.buffer gone bytes ch sound_left in_pool_lem long in
           over (ap (λ (y : Row). names y t) row ∙ freed_unnamed (raised r.generation)) arrived c (i, left_in left r) given_is
-          (record { buf = (λ j. Back (o.in_row.buffer j) (all j)); tag = o.in_row.tag; outcome = outcome; wrote = λ page. wrote page ∙ (λ j. written_to w.opening (sym z j).poison w.request.durable (ticket_of w.opening w.plan w.kind (count_given given ((i, left_in left r) ∷ []))) (result_given ((i, left_in left r) ∷ []))); policy = λ page durable none. ap (λ (y : State). w.opening.flush || (region_at y w.request.handle).forced) z ∙ policy page durable none })
+          (record { buf = (λ j. Back (record { buffer = (o.in_row.buffer j); len = (all j) })); tag = o.in_row.tag; outcome = outcome; wrote = λ page. wrote page ∙ (λ j. written_to w.opening (sym z j).poison w.request.durable (ticket_of w.opening w.plan w.kind (count_given given ((i, left_in left r) ∷ []))) (result_given ((i, left_in left r) ∷ []))); policy = λ page durable none. ap (λ (y : State). w.opening.flush || (region_at y w.request.handle).forced) z ∙ policy page durable none })
           (gets_with (c ∷ []) (ap (λ (y : State). drop (length s.ready) y.ready) z ∙ drop-append_seam s.ready (c ∷ [])) (w.new ++ w.tail) (there ∙ new))
           none_left
         where

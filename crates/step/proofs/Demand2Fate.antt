@@ -11,12 +11,13 @@ use lib.Dec.{eqb}
 use Rattle.layout.specs.Pick.{pick}
 use Rattle.layout.proofs.Tests.{not_both, and_right, and_both}
 use Rattle.iobuf.specs.Turn.{turned}
-use Rattle.domain.specs.declared.Poisoned.{Poisoned}
+use Rattle.std.specs.declared.option.Option.{Option}
+use Rattle.domain.specs.declared.FirstCause.{FirstCause}
 use Rattle.platform.specs.declared.Answer.{Answer}
 use Rattle.platform.specs.declared.Answer.TheVariants.{Count, Error, Refused, RefusedWith}
 use Rattle.completion.specs.declared.Outcome.{Outcome}
 use Rattle.completion.specs.declared.Outcome.TheVariants.{Written, Read as readTo}
-use Rattle.completion.specs.declared.Buffer.TheVariants.{Back}
+use Rattle.std.specs.declared.option.Option.TheVariants.{Some as Back}
 use Rattle.model.specs.declared.Opening.{Opening}
 use Rattle.model.specs.declared.Kind.{Kind}
 use Rattle.model.specs.declared.Kind.TheVariants.{Page, Read}
@@ -36,15 +37,15 @@ pages (Page a b) = true
 pages (Read a b) = false
 
 -- what a write comes to whose last piece was taken whole, and no flush is asked for
-pub record EndsAs (o : Opening) (g : Plan) (forced : Bool) (first : Poisoned) (flushes : ℕ) (r : Row) (k : Kind) (x : Outcome) : Type 0 where
+pub record EndsAs (o : Opening) (g : Plan) (forced : Bool) (first : Option FirstCause) (flushes : ℕ) (r : Row) (k : Kind) (x : Outcome) : Type 0 where
   pub outcome : x ≡ written_to o first r.durable (ticket_of o g k flushes) none
   pub policy : r.durable ≡ true → o.flush || forced ≡ false
 
-module _ (o : Opening) (g : Plan) (forced : Bool) (first : Poisoned) (flushes : ℕ) (r : Row) (k : Kind) (sp : Split) (n : ℕ) (bytes : List ℕ) (f : Fate) where
+module _ (o : Opening) (g : Plan) (forced : Bool) (first : Option FirstCause) (flushes : ℕ) (r : Row) (k : Kind) (sp : Split) (n : ℕ) (bytes : List ℕ) (f : Fate) where
   pub data Whole : Type 0 where
     next_piece : sp.done + n < sp.total → f ≡ awaits (Piece k (split_after n sp)) (turned sp.total n bytes) → Whole
     its_flush : pages k ≡ true → r.durable ≡ true → sp.done + n ≡ sp.total → f ≡ awaits (Flush (ticket_of o g k flushes)) (turned sp.total (left_of sp) bytes) → Whole
-    completes : sp.done + n ≡ sp.total → (x : Outcome) → (pages k ≡ false → x ≡ readTo sp.total) → (pages k ≡ true → EndsAs o g forced first flushes r k x) → f ≡ ends (record { outcome = x; buffer = Back r.buffer sp.total; bytes = turned sp.total (left_of sp) bytes; cause = none }) → Whole
+    completes : sp.done + n ≡ sp.total → (x : Outcome) → (pages k ≡ false → x ≡ readTo sp.total) → (pages k ≡ true → EndsAs o g forced first flushes r k x) → f ≡ ends (record { outcome = x; buffer = Back (record { buffer = r.buffer; len = sp.total }); bytes = turned sp.total (left_of sp) bytes; cause = none }) → Whole
 
 whole_count : (n : ℕ) (x : Answer) → is_whole n x ≡ true → x ≡ Count n
 unfolding is_whole
@@ -53,11 +54,11 @@ whole_count n (Error e media) w = absurd (not_both w refl)
 whole_count n Refused w = absurd (not_both w refl)
 whole_count n (RefusedWith e media) w = absurd (not_both w refl)
 
-module _ (o : Opening) (g : Plan) (forced : Bool) (first : Poisoned) (r : Row) (sp : Split) (bytes : List ℕ) where
+module _ (o : Opening) (g : Plan) (forced : Bool) (first : Option FirstCause) (r : Row) (sp : Split) (bytes : List ℕ) where
   -- the last piece
   last_whole : (k : Kind) (n flushed : ℕ) → sp.done + n ≡ sp.total → Whole o g forced first flushed r k sp n bytes (last_piece o g forced first r k sp bytes (Count n) true flushed)
   unfolding last_piece read_outcome read_length buffer_as turned_back is_written written_as durably_to written_to pages pick
-  last_whole (Read a b) n flushed e = completes e (readTo (sp.done + n)) (λ z. ap readTo e) (λ z. absurd (not_both z refl)) (ap (λ (l : ℕ). ends (record { outcome = readTo (sp.done + n); buffer = Back r.buffer l; bytes = turned sp.total (left_of sp) bytes; cause = none })) e)
+  last_whole (Read a b) n flushed e = completes e (readTo (sp.done + n)) (λ z. ap readTo e) (λ z. absurd (not_both z refl)) (ap (λ (l : ℕ). ends (record { outcome = readTo (sp.done + n); buffer = Back (record { buffer = r.buffer; len = l }); bytes = turned sp.total (left_of sp) bytes; cause = none })) e)
   last_whole (Page a b) n flushed e =
       let t = ticket_of o g (Page a b) flushed in
       by_pick _ (Whole o g forced first flushed r (Page a b) sp n bytes)

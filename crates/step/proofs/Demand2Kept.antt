@@ -16,7 +16,7 @@ use Rattle.layout.proofs.Tests.{not_both, and_left, and_right}
 use Rattle.regionmap.specs.declared.Position.{Position}
 use Rattle.regionmap.specs.Map.{Map, pieces}
 use Rattle.regionmap.specs.Map.{Piece as MapPiece}
-use Rattle.domain.specs.declared.Poisoned.{Poisoned}
+use Rattle.std.specs.declared.option.Option.{Option as StdOption}
 use Rattle.platform.specs.declared.Answer.{Answer}
 use Rattle.platform.specs.declared.Answer.TheVariants.{Count, Error, Refused, RefusedWith}
 use Rattle.platform.specs.declared.Flushed.{Flushed}
@@ -25,10 +25,9 @@ use Rattle.completion.specs.declared.Refusal.TheVariants.{NotAwaited}
 use Rattle.completion.specs.declared.WriteTicket.{WriteTicket}
 use Rattle.completion.specs.declared.Reply.{Reply}
 use Rattle.completion.specs.declared.Outcome.{Outcome}
-use Rattle.completion.specs.declared.Buffer.{Buffer}
+use Rattle.completion.specs.Buffers.{Buffer}
 use Rattle.completion.specs.declared.Completion.{Completion}
 use Rattle.domain.specs.declared.FirstCause.{FirstCause}
-use Rattle.domain.specs.declared.OsError.{OsError}
 use Rattle.model.specs.declared.Opening.{Opening}
 use Rattle.model.specs.declared.Kind.{Kind}
 use Rattle.model.specs.declared.Kind.TheVariants.{Page, Read}
@@ -119,7 +118,7 @@ Last g (Flush t) f = Unit {0}
 data Judged (s : State) (r : Row) (i : Input) (f : Fate) : Type 0 where
   whole : WholeTo s r r.awaits i → Last (plan_at s r) r.awaits f → Judged s r i f
   lost : (o : Outcome) (b : Buffer) (bytes : List ℕ) (cause : Option FirstCause) → f ≡ ends (record { outcome = o; buffer = b; bytes = bytes; cause = cause }) → is_kept o ≡ false → Judged s r i f
-  refused : (e : OsError) (b : Buffer) (bytes : List ℕ) → f ≡ rejected e b bytes → Judged s r i f
+  refused : (e : StdOption ℕ) (b : Buffer) (bytes : List ℕ) → f ≡ rejected e b bytes → Judged s r i f
   turned : (x : Refusal) → f ≡ away x → Judged s r i f
 
 -- a count that makes a write written is the whole piece
@@ -145,7 +144,7 @@ written_last g k sp (Error e media) back taken all = absurd (not_both all refl)
 written_last g k sp Refused back taken all = absurd (not_both all refl)
 written_last g k sp (RefusedWith e media) back taken all = absurd (not_both all refl)
 
-module _ (s : State) (r : Row) (forced : Bool) (first : Poisoned) (o : Opening) (bytes : List ℕ) where
+module _ (s : State) (r : Row) (forced : Bool) (first : StdOption FirstCause) (o : Opening) (bytes : List ℕ) where
   abbrev g : Plan
   g = plan_at s r
 

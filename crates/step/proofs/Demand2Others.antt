@@ -17,12 +17,11 @@ use Rattle.completion.specs.declared.Reply.{Reply}
 use Rattle.model.specs.declared.Lengths.{Lengths}
 use Rattle.model.specs.declared.Kind.{Kind}
 use Rattle.model.specs.declared.Request.{Request}
-use Rattle.model.specs.declared.Asked.{Asked}
-use Rattle.model.specs.declared.Asked.TheVariants.{Yes, No}
+use Rattle.std.specs.declared.result.Result.TheVariants.{Ok, Err}
 use Rattle.model.specs.declared.Call.{Call}
 use Rattle.model.specs.declared.Call.TheVariants.{Write, ReadPage, Answer, Flushed, Take, SetGate, SetReadOnly, SetForced, ReportPoison}
 use Rattle.model.specs.State.{Region, State, freed, awaiting}
-use Rattle.step.specs.Questions.{region_at}
+use Rattle.step.specs.Questions.{region_at, Asked}
 use Rattle.step.specs.Rules.{Input, Input.answered, Input.flushed, Fate, Fate.away, Fate.awaits, Fate.ends, Fate.rejected}
 use Rattle.step.specs.Step.{top_of, row_at, row_of, names, bytes_at, raised, awaits_now, accepted, submitted, verdict_of, write_verdict, read_verdict, going, freeing, settled, fate_of, under_tag, taken}
 use Rattle.step.specs.Step.{with_regions, with_poison, marked, with_gate, with_read_only, with_forced, called, eq_lengths, step}
@@ -79,8 +78,8 @@ module _ (s : State) (sound : Sound s) (b : ℕ) where
 
   submitted_bytes : (q : Request) (k : Kind) (a : Asked) → SameBytes (submitted s q (verdict_of a s k q))
   unfolding submitted verdict_of accepted bytes_at
-  submitted_bytes q k (No f) = refl
-  submitted_bytes q k Yes = refl
+  submitted_bytes q k (Err f) = refl
+  submitted_bytes q k (Ok _) = refl
 
   taken_bytes : (l : List Completion) → SameBytes (taken s l)
   unfolding taken bytes_at
@@ -147,10 +146,10 @@ module _ (s : State) (sound : Sound s) (t : ℕ) (named : names (row_at s (row_o
       let live = live_one (row_at s (row_of t)).awaits (names_live (row_at s (row_of t)) t named) in
       omega (arith, subst (λ (r : ℕ). awaiting (row_at s r).awaits ≡ 1) e live, awaits_nothing s sound passed.room)
 
-  submitted_row : (q : Request) (k : Kind) (a : Asked) → (a ≡ Yes → Passed s q) → SameRow (submitted s q (verdict_of a s k q))
+  submitted_row : (q : Request) (k : Kind) (a : Asked) → (a ≡ Ok tt → Passed s q) → SameRow (submitted s q (verdict_of a s k q))
   unfolding submitted verdict_of accepted row_at
-  submitted_row q k (No f) passes = refl
-  submitted_row q k Yes passes = get_or-set_other s.rows (top_of s.free) (row_of t) _ (freed 0) (not_top q (passes refl))
+  submitted_row q k (Err f) passes = refl
+  submitted_row q k (Ok _) passes = get_or-set_other s.rows (top_of s.free) (row_of t) _ (freed 0) (not_top q (passes refl))
 
   taken_row : (l : List Completion) → SameRow (taken s l)
   unfolding taken row_at

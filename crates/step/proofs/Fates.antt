@@ -11,11 +11,12 @@ use lib.ListN.{length}
 use Rattle.layout.proofs.Tests.{and_right}
 use Rattle.regionmap.specs.declared.Position.{Position}
 use Rattle.iobuf.proofs.Laws.{turn_laws}
-use Rattle.domain.specs.declared.Poisoned.{Poisoned}
+use Rattle.std.specs.declared.option.Option.{Option}
+use Rattle.domain.specs.declared.FirstCause.{FirstCause}
 use Rattle.platform.specs.declared.Answer.{Answer}
 use Rattle.platform.specs.declared.Flushed.{Flushed}
-use Rattle.completion.specs.declared.Buffer.{Buffer}
-use Rattle.completion.specs.declared.Buffer.TheVariants.{Back, Lost}
+use Rattle.completion.specs.Buffers.{Buffer}
+use Rattle.std.specs.declared.option.Option.TheVariants.{Some as Back, None as Lost}
 use Rattle.model.specs.declared.Opening.{Opening}
 use Rattle.model.specs.declared.Kind.{Kind}
 use Rattle.model.specs.declared.Kind.TheVariants.{Page, Read}
@@ -34,12 +35,12 @@ use Rattle.step.proofs.Picked.{by_pick}
 
 -- the buffer b, or that it is lost
 unfoldable pub Own : ℕ → Buffer → Type 0
-Own b (Back k n) = k ≡ b
+Own b (Back h) = h.buffer ≡ b
 Own b Lost = Unit {0}
 
 -- a lost one keeps its bytes as they lie
 unfoldable pub Lies : Buffer → List ℕ → List ℕ → Type 0
-Lies (Back k n) bytes bytes' = Unit {0}
+Lies (Back h) bytes bytes' = Unit {0}
 Lies Lost bytes bytes' = bytes' ≡ bytes
 
 unfoldable pub AwaitsPiece : Awaits → Type 0
@@ -109,7 +110,7 @@ module _ (o : Opening) (g : Region) where
 
   -- ---- the rules
 
-  module _ (forced : Bool) (first : Poisoned) (r : Row) (bytes : List ℕ) where
+  module _ (forced : Bool) (first : Option FirstCause) (r : Row) (bytes : List ℕ) where
     abbrev Fits : Awaits → Fate → Type 0
     Fits was = Fitting o g was r.buffer bytes
 

@@ -9,8 +9,8 @@ use native.Mathlib.Omega.{arith}
 use lib.ListN.{length, get_or, set, length-set, length-append}
 use Rattle.domain.specs.declared.FirstCause.{FirstCause}
 use Rattle.completion.specs.declared.Outcome.{Outcome}
-use Rattle.completion.specs.declared.Buffer.{Buffer}
-use Rattle.completion.specs.declared.Buffer.TheVariants.{Back, Lost}
+use Rattle.completion.specs.Buffers.{Buffer}
+use Rattle.std.specs.declared.option.Option.TheVariants.{Some as Back, None as Lost}
 use Rattle.completion.specs.declared.Completion.{Completion}
 use Rattle.model.specs.declared.Row.{Row}
 use Rattle.model.specs.State.{Owner, Owner.host, Owner.table, Owner.lost, State, freed, awaiting}
@@ -32,17 +32,17 @@ pub record Goes (b : ℕ) (more : List Completion) (who : Owner) : Type 0 where
 -- an operation that ends keeps its buffer in its completion
 pub goes_completed : (b : ℕ) (r : Row) (o : Outcome) (buf : Buffer) → Own b buf → Goes b (completion_of r o buf ∷ []) (kept_by table buf)
 unfolding Own kept_by completion_of ready_hold table_has holds
-goes_completed b r o (Back k n) e = record {
+goes_completed b r o (Back h) e = record {
   few = omega arith;
-  own = rw e (omega (arith, back_holds_own b n));
-  other = λ j ne. omega (arith, back_holds_other j k n (λ same. ne (same ∙ e)));
+  own = rw e (omega (arith, back_holds_own b h.len));
+  other = λ j ne. omega (arith, back_holds_other j h.buffer h.len (λ same. ne (same ∙ e)));
 }
 goes_completed b r o Lost e = record { few = omega arith; own = omega arith; other = λ j ne. omega arith }
 
 -- one that is rejected gives it to the host
 pub goes_back : (b : ℕ) (buf : Buffer) → Goes b [] (kept_by host buf)
 unfolding kept_by ready_hold table_has
-goes_back b (Back k n) = record { few = omega arith; own = refl; other = λ j ne. refl }
+goes_back b (Back h) = record { few = omega arith; own = refl; other = λ j ne. refl }
 goes_back b Lost = record { few = omega arith; own = refl; other = λ j ne. refl }
 
 freed_none : (g : ℕ) → awaiting (freed g).awaits ≡ 0

@@ -22,14 +22,13 @@ use Rattle.model.specs.declared.Kind.{Kind}
 use Rattle.model.specs.declared.Kind.TheVariants.{Page, Read}
 use Rattle.model.specs.declared.Split.{Split}
 use Rattle.model.specs.declared.Request.{Request}
-use Rattle.model.specs.declared.Asked.{Asked}
-use Rattle.model.specs.declared.Asked.TheVariants.{Yes, No}
+use Rattle.std.specs.declared.result.Result.TheVariants.{Ok, Err}
 use Rattle.model.specs.declared.Call.{Call}
 use Rattle.model.specs.declared.Call.TheVariants.{Write, ReadPage, Answer, Flushed, Take, SetGate, SetReadOnly, SetForced, ReportPoison}
 use Rattle.model.specs.declared.Lookup.{Lookup}
 use Rattle.model.specs.State.{Region, no_region, State}
 use Rattle.model.specs.Opening.{opened}
-use Rattle.step.specs.Questions.{byte_at, region_at}
+use Rattle.step.specs.Questions.{byte_at, region_at, Asked}
 use Rattle.step.specs.Rules.{left_of, piece_of, Input.answered, Input.flushed, range_start, range_end}
 use Rattle.step.specs.Step.{start_of, end_of, begun, verdict_of, write_verdict, read_verdict, submitted, plan_of, with_regions, with_poison, marked, with_gate, with_read_only, with_forced}
 use Rattle.step.specs.Step.{looked_up, eq_lengths, called, step, look}
@@ -51,10 +50,10 @@ use Rattle.step.proofs.Poisoned.{first_kept_lem}
 -- ---- a sound table stays sound
 
 -- a submission of a kind that says its range, by the questions' answer
-keeps_submitted : (s : State) (q : Request) (k : Kind) → Sound s → (a : Asked) → (a ≡ Yes → Passed s q) → (Passed s q → Covers k q) → Sound (submitted s q (verdict_of a s k q)).0
+keeps_submitted : (s : State) (q : Request) (k : Kind) → Sound s → (a : Asked) → (a ≡ Ok tt → Passed s q) → (Passed s q → Covers k q) → Sound (submitted s q (verdict_of a s k q)).0
 unfolding submitted verdict_of
-keeps_submitted s q k i (No f) passes covers = i
-keeps_submitted s q k i Yes passes covers = keeps_accepted s i q (passes refl) k (covers (passes refl))
+keeps_submitted s q k i (Err f) passes covers = i
+keeps_submitted s q k i (Ok _) passes covers = keeps_accepted s i q (passes refl) k (covers (passes refl))
 
 -- a setting, of a region that is otherwise as it was
 keeps_marked : (s : State) (h : ℕ) (g : Region) → Sound s → plan_of g ≡ plan_of (region_at s h) → Sound (marked s h g).0

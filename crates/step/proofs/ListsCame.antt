@@ -7,9 +7,9 @@ use mathlib.Core.List.{List, [], ◌∷◌}
 use Prim.Native.Nat.{ℕ}
 use Rattle.layout.specs.Pick.{pick}
 use Rattle.domain.specs.declared.FirstCause.{FirstCause}
-use Rattle.domain.specs.declared.OsError.{OsError}
+use Rattle.std.specs.declared.option.Option.{Option as StdOption}
 use Rattle.completion.specs.declared.Outcome.{Outcome}
-use Rattle.completion.specs.declared.Buffer.{Buffer}
+use Rattle.completion.specs.Buffers.{Buffer}
 use Rattle.completion.specs.declared.Completion.{Completion}
 use Rattle.completion.specs.declared.Refusal.{Refusal}
 use Rattle.completion.specs.declared.Refusal.TheVariants.{Unfit, UnknownTag}
@@ -77,7 +77,7 @@ module _ (s : State) (sound : Sound s) (l : Lengths) (m : Made) (t : ℕ) (i : I
     fate_calm heard = calm s.settings s (region_at s row.handle).forced s.poison row (bytes_at s row.buffer) i (live_in_table s sound (row_of t) (names_live row t named)).split (fair heard)
 
     -- none is rejected
-    pub not_rejected : (e : OsError) (b : Buffer) (bytes : List ℕ) → fate_of s row i ≡ rejected e b bytes → done s l m ≡ settled s t row (rejected e b bytes) → ⊥
+    pub not_rejected : (e : StdOption ℕ) (b : Buffer) (bytes : List ℕ) → fate_of s row i ≡ rejected e b bytes → done s l m ≡ settled s t row (rejected e b bytes) → ⊥
     unfolding settled Calm Fitting
     not_rejected e b bytes q d = subst Calm q (fate_calm heard)
       where

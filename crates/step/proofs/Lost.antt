@@ -9,19 +9,18 @@ use Prim.Native.Nat.{ℕ, zero, suc, ◌<◌}
 use native.Mathlib.Omega.{arith}
 use lib.ListN.{length, get_or}
 use Rattle.layout.proofs.Tests.{not_both}
-use Rattle.completion.specs.declared.Buffer.{Buffer}
-use Rattle.completion.specs.declared.Buffer.TheVariants.{Back, Lost}
+use Rattle.completion.specs.Buffers.{Buffer}
+use Rattle.std.specs.declared.option.Option.TheVariants.{Some as Back, None as Lost}
 use Rattle.completion.specs.declared.Completion.{Completion}
 use Rattle.completion.specs.declared.Reply.{Reply}
 use Rattle.model.specs.declared.Lengths.{Lengths}
 use Rattle.model.specs.declared.Kind.{Kind}
 use Rattle.model.specs.declared.Request.{Request}
-use Rattle.model.specs.declared.Asked.{Asked}
-use Rattle.model.specs.declared.Asked.TheVariants.{Yes, No}
+use Rattle.std.specs.declared.result.Result.TheVariants.{Ok, Err}
 use Rattle.model.specs.declared.Call.{Call}
 use Rattle.model.specs.declared.Call.TheVariants.{Write, ReadPage, Answer, Flushed, Take, SetGate, SetReadOnly, SetForced, ReportPoison}
 use Rattle.model.specs.State.{Owner, Owner.host, Owner.lost, State}
-use Rattle.step.specs.Questions.{is_host, held_at, region_at}
+use Rattle.step.specs.Questions.{is_host, held_at, region_at, Asked}
 use Rattle.step.specs.Rules.{Input.answered, Input.flushed}
 use Rattle.step.specs.Step.{row_at, row_of, names, submitted, verdict_of, write_verdict, read_verdict, with_poison, with_gate, with_read_only, with_forced, called, eq_lengths, step}
 use Rattle.step.specs.Sound.{holds, table_has, ready_hold, Sound}
@@ -45,7 +44,7 @@ use Rattle.step.proofs.Owners.{submitted_same, under_same, taken_same, marked_sa
 pub row_had : (s : State) → Sound s → (t : ℕ) → names (row_at s (row_of t)) t ≡ true → table_has (get_or s.owners (row_at s (row_of t)).buffer lost) ≡ 1
 row_had s sound t named = had s sound (row_of t) (named_below s sound t named) (named_live s sound t named)
 
-pub ready_had : (s : State) → Sound s → (c : Completion) (more : List Completion) (b n : ℕ) → s.ready ≡ c ∷ more → c.buf ≡ Back b n → table_has (get_or s.owners b lost) ≡ 1
+pub ready_had : (s : State) → Sound s → (c : Completion) (more : List Completion) (b n : ℕ) → s.ready ≡ c ∷ more → c.buf ≡ Back (record { buffer = b; len = n }) → table_has (get_or s.owners b lost) ≡ 1
 unfolding ready_hold
 ready_had s sound c more b n e back =
     omega (arith, sound.holders b, ap (ready_hold b) e, ap (holds b) back, back_holds_own b n, has_most (get_or s.owners b lost))
@@ -83,7 +82,7 @@ module _ (s : State) (b : ℕ) (gone : IsLost s b) where
 
     back_other : (c : Completion) (more : List Completion) → s.ready ≡ c ∷ more → (buf : Buffer) → c.buf ≡ buf → buffer_back buf ≢ some b
     unfolding buffer_back
-    back_other c more e (Back k n) back same = not_had k (ready_had s sound c more k n e back) (cc)
+    back_other c more e (Back h) back same = not_had h.buffer (ready_had s sound c more h.buffer h.len e back) (cc)
     back_other c more e Lost back same = clash (cc)
 
     ready_other : (cs : List Completion) → s.ready ≡ cs → taken_from cs ≢ some b
@@ -116,10 +115,10 @@ stays_lost s es b sound pools gone =
 
 -- ---- no submission takes it
 
-submitted_away : (s : State) (q : Request) (k : Kind) (a : Asked) → (a ≡ Yes → Passed s q) → IsLost s q.buffer → is_away (submitted s q (verdict_of a s k q)).1 ≡ true
+submitted_away : (s : State) (q : Request) (k : Kind) (a : Asked) → (a ≡ Ok tt → Passed s q) → IsLost s q.buffer → is_away (submitted s q (verdict_of a s k q)).1 ≡ true
 unfolding submitted verdict_of is_away
-submitted_away s q k (No f) passes gone = refl
-submitted_away s q k Yes passes gone = absurd (not_held s q.buffer gone q.buffer (passes refl).held refl)
+submitted_away s q k (Err f) passes gone = refl
+submitted_away s q k (Ok _) passes gone = absurd (not_held s q.buffer gone q.buffer (passes refl).held refl)
 
 pub lost_refused : (s : State) (l : Lengths) (q : Request) → IsLost s q.buffer → (is_away (step s l (Write q)).1 ≡ true) × (is_away (step s l (ReadPage q)).1 ≡ true)
 unfolding step called write_verdict read_verdict is_away

@@ -10,8 +10,8 @@ use lib.Seq.{get_or-set_same}
 use mathlib.Core.List.{List}
 use Rattle.domain.specs.declared.FirstCause.{FirstCause}
 use Rattle.completion.specs.declared.Outcome.{Outcome}
-use Rattle.completion.specs.declared.Buffer.{Buffer}
-use Rattle.completion.specs.declared.Buffer.TheVariants.{Back, Lost}
+use Rattle.completion.specs.Buffers.{Buffer}
+use Rattle.std.specs.declared.option.Option.TheVariants.{Some as Back, None as Lost}
 use Rattle.completion.specs.declared.Reply.{Reply}
 use Rattle.model.specs.declared.Lengths.{Lengths}
 use Rattle.model.specs.declared.Row.{Row}
@@ -54,7 +54,7 @@ module _ (s : State) (sound : Sound s) where
         → let f = ends (record { outcome = o; buffer = b; bytes = bytes; cause = cause }) in
         FateFits s row f → Keeps row.buffer (settled s t row f)
     unfolding settled freeing Fitting Lies kept_by
-    ends_keeps o (Back k n) bytes cause w gone = clash (let e = get_or-set_same s.owners row.buffer table host in_owners in cc)
+    ends_keeps o (Back h) bytes cause w gone = clash (let e = get_or-set_same s.owners row.buffer table host in_owners in cc)
     ends_keeps o Lost bytes cause w gone =
         bytes_here s (settled s t row (ends (record { outcome = o; buffer = Lost; bytes = bytes; cause = cause }))).0 (row_of t) row.buffer (freed (raised row.generation)) bytes (record { settings = refl; regions = refl; rows = refl; pool = refl }) sound in_buffers (w.1 ∙ bytes_length s sound row.buffer in_buffers)
         ∙ w.2

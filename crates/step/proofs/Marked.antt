@@ -4,7 +4,8 @@ use mathlib.Core.List.{List, map}
 use Prim.Native.Nat.{ℕ, ◌≤◌}
 use native.Mathlib.Omega.{arith}
 use lib.ListN.{length, get_or, length-map, get_or-map}
-use Rattle.domain.specs.declared.Poisoned.{Poisoned}
+use Rattle.std.specs.declared.option.Option.{Option}
+use Rattle.domain.specs.declared.FirstCause.{FirstCause}
 use Rattle.model.specs.declared.Opening.{Opening}
 use Rattle.model.specs.declared.Awaits.{Awaits}
 use Rattle.model.specs.declared.Awaits.TheVariants.{Nothing, Piece, Flush}
@@ -44,11 +45,11 @@ module _ (s t : State) (x : Row) (settings : t.settings ≡ s.settings) (plans :
 
 -- ---- other marks, another poison, other bytes
 
-abbrev pub besides : State → List Region → Poisoned → List ℕ → State
+abbrev pub besides : State → List Region → Option FirstCause → List ℕ → State
 besides s gs p pool =
     record { settings = s.settings; lengths = s.lengths; regions = gs; poison = p; counts = s.counts; rows = s.rows; free = s.free; ready = s.ready; owners = s.owners; pool = pool }
 
-module _ (s : State) (gs : List Region) (p : Poisoned) (pool : List ℕ) (i : Sound s) (plans : map plan_of gs ≡ map plan_of s.regions) (count : length pool ≡ length s.pool) where
+module _ (s : State) (gs : List Region) (p : Option FirstCause) (pool : List ℕ) (i : Sound s) (plans : map plan_of gs ≡ map plan_of s.regions) (count : length pool ≡ length s.pool) where
   abbrev after : State
   after = besides s gs p pool
 

@@ -3,8 +3,9 @@ use mathlib.Core.Path.{◌≡◌, refl}
 use mathlib.Core.Bool.{Bool, true, false}
 use mathlib.Core.List.{List, [], ◌∷◌}
 use Prim.Native.Nat.{ℕ}
-use Rattle.domain.specs.declared.Poisoned.{Poisoned}
-use Rattle.domain.specs.declared.Poisoned.TheVariants.{Never, First}
+use Rattle.std.specs.declared.option.Option.{Option}
+use Rattle.std.specs.declared.option.Option.TheVariants.{None, Some}
+use Rattle.domain.specs.declared.FirstCause.{FirstCause}
 use Rattle.completion.specs.declared.Context.{Context}
 use Rattle.completion.specs.declared.Refusal.{Refusal}
 use Rattle.completion.specs.Numbers.{number}
@@ -27,10 +28,10 @@ gates Open c = refl
 gates Recycled c = refl
 gates Released c = refl
 
-poisons : (p : Poisoned) → says_one (7 ∷ []) (unpoisoned p) ≡ true
+poisons : (p : Option FirstCause) → says_one (7 ∷ []) (unpoisoned p) ≡ true
 unfolding says_one unpoisoned among number
-poisons Never = refl
-poisons (First c) = refl
+poisons None = refl
+poisons (Some c) = refl
 
 pub write_numbers_lem : (s : State) (g : Region) (q : Request) → SaysEach write_numbers (write_questions s g q)
 unfolding write_numbers write_questions SaysEach among number handle_names_region buffer_in_pool host_holds_buffer room_in_table lifetime_left store_writable region_writable volume_and_region_match generation_matches length_above0 aligned within_data

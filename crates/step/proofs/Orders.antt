@@ -13,7 +13,7 @@ use Rattle.regionmap.specs.Words.{runs_in, map_in}
 use Rattle.posix.specs.Posix.{pwrite}
 use Rattle.iobuf.specs.Turn.{turned, stretch, with_stretch}
 use Rattle.completion.specs.declared.Outcome.TheVariants.{Written, Read as readTo}
-use Rattle.completion.specs.declared.Buffer.TheVariants.{Back}
+use Rattle.std.specs.declared.option.Option.TheVariants.{Some as Back}
 use Rattle.model.specs.State.{freed, up_from, live_rows, awaiting}
 use Rattle.model.specs.Opening.{among, distinct, ids_rule, runs_on_block, blocks_rule, map_rule, region_rule, each_region, all_extents, apart_rule, within_rule, all_true, number_rules, length_rules, region_rules, admits, at_first, opened, plan_in, plans_in, listed, opens}
 use Rattle.step.specs.Questions.{ask, first_no, handle_names_region, buffer_in_pool, is_host, held_at, host_holds_buffer, room_in_table, lifetime_left, gate_open, store_writable, unpoisoned}
@@ -80,14 +80,14 @@ orders = record {
   agreed = λ card. record {
     each = by_row _
         (λ live. record {
-          it = (record { tag = 70; outcome = Written (ticket_there 1); buf = Back 0 1024 }, replicate 512 5 ++ replicate 512 6);
+          it = (record { tag = 70; outcome = Written (ticket_there 1); buf = Back (record { buffer = 0; len = 1024 }) }, replicate 512 5 ++ replicate 512 6);
           first = refl;
           second = refl;
           alone₁ = refl;
           alone₂ = refl;
         })
         (λ live. record {
-          it = (record { tag = 71; outcome = readTo 100; buf = Back 1 100 }, replicate 1024 9);
+          it = (record { tag = 71; outcome = readTo 100; buf = Back (record { buffer = 1; len = 100 }) }, replicate 1024 9);
           first = refl;
           second = refl;
           alone₁ = refl;

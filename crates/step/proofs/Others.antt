@@ -14,11 +14,11 @@ use Rattle.layout.specs.Pick.{pick}
 use Rattle.layout.proofs.Tests.{not_both, or_first, or_second}
 use Rattle.regionmap.specs.declared.Position.{Position}
 use Rattle.domain.specs.declared.FirstCause.{FirstCause}
-use Rattle.domain.specs.declared.Poisoned.{Poisoned}
-use Rattle.domain.specs.declared.Poisoned.TheVariants.{Never, First}
+use Rattle.std.specs.declared.option.Option.{Option}
+use Rattle.std.specs.declared.option.Option.TheVariants.{None, Some}
 use Rattle.domain.specs.Domain.{first_kept}
-use Rattle.completion.specs.declared.Buffer.{Buffer}
-use Rattle.completion.specs.declared.Buffer.TheVariants.{Back}
+use Rattle.completion.specs.Buffers.{Buffer}
+use Rattle.std.specs.declared.option.Option.TheVariants.{Some as Back}
 use Rattle.completion.specs.declared.Completion.{Completion}
 use Rattle.completion.specs.declared.Refusal.TheVariants.{Unfit}
 use Rattle.completion.specs.declared.Reply.{Reply}
@@ -87,12 +87,12 @@ module _ (s : State) (l : Lengths) (same : eq_lengths l s.lengths ≡ true) wher
   take_is cs e = called_is s l same Take ∙ ap (taken s) e
 
   takes : (c : Completion) (more : List Completion) → Sound s → s.ready ≡ c ∷ more
-      → ((step s l Take).1 ≡ Took c) × ((step s l Take).0.ready ≡ more) × ((b n : ℕ) → c.buf ≡ Back b n → held_at (step s l Take).0 b ≡ true)
+      → ((step s l Take).1 ≡ Took c) × ((step s l Take).0.ready ≡ more) × ((b n : ℕ) → c.buf ≡ Back (record { buffer = b; len = n }) → held_at (step s l Take).0 b ≡ true)
   unfolding taken held_at is_host given_back
   takes c more sound e =
       (ap (λ (z : State × Reply). z.1) (take_is (c ∷ more) e), ap (λ (z : State × Reply). z.0.ready) (take_is (c ∷ more) e), λ b n back. held b n back)
     where
-      held : (b n : ℕ) → c.buf ≡ Back b n → held_at (step s l Take).0 b ≡ true
+      held : (b n : ℕ) → c.buf ≡ Back (record { buffer = b; len = n }) → held_at (step s l Take).0 b ≡ true
       held b n back =
           ap (λ (z : State × Reply). held_at z.0 b) (take_is (c ∷ more) e)
           ∙ ap (λ (buf : Buffer). is_host (get_or (given_back s.owners buf) b lost)) back
@@ -116,13 +116,13 @@ module _ (s : State) (l : Lengths) (same : eq_lengths l s.lengths ≡ true) wher
       Set : State × Reply → Type 0
       Set z = MarksSet s z.0 z.1 h g.gate g.read_only g.forced
 
-  reports : (p : Poisoned) (cause : FirstCause) → s.poison ≡ p → step s l (ReportPoison cause) ≡ (with_poison s (first_kept p cause), Ok)
+  reports : (p : Option FirstCause) (cause : FirstCause) → s.poison ≡ p → step s l (ReportPoison cause) ≡ (with_poison s (first_kept p cause), Ok)
   unfolding called
-  reports p cause e = called_is s l same (ReportPoison cause) ∙ ap (λ (p : Poisoned). (with_poison s (first_kept p cause), Ok)) e
+  reports p cause e = called_is s l same (ReportPoison cause) ∙ ap (λ (p : Option FirstCause). (with_poison s (first_kept p cause), Ok)) e
 
-  reports_later : (cause first : FirstCause) → s.poison ≡ First first → step s l (ReportPoison cause) ≡ (s, Ok)
+  reports_later : (cause first : FirstCause) → s.poison ≡ Some first → step s l (ReportPoison cause) ≡ (s, Ok)
   unfolding with_poison
-  reports_later cause first e = reports (First first) cause e ∙ ap (λ (p : Poisoned). (with_poison s p, Ok)) (sym e)
+  reports_later cause first e = reports (Some first) cause e ∙ ap (λ (p : Option FirstCause). (with_poison s p, Ok)) (sym e)
 
 -- ---- the lookups
 
@@ -187,7 +187,7 @@ other_laws = record {
   sets_gate = λ s l h x sound same known. sets s l same (SetGate h x) h (with_gate (region_at s h) x) sound known refl refl;
   sets_read_only = λ s l h x sound same known. sets s l same (SetReadOnly h x) h (with_read_only (region_at s h) x) sound known refl refl;
   sets_forced = λ s l h x sound same known. sets s l same (SetForced h x) h (with_forced (region_at s h) x) sound known refl refl;
-  reports = λ s l cause same e. reports s l same Never cause e;
+  reports = λ s l cause same e. reports s l same None cause e;
   reports_later = λ s l cause first same e. reports_later s l same cause first e;
   writes = λ s l r a b sp same e. looked s l same WritesLive ∙ ap Writes (some_write s.rows r a b sp e);
   no_writes = λ s l same h. looked s l same WritesLive ∙ ap Writes (no_write s.rows h);

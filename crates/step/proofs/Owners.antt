@@ -8,20 +8,19 @@ use Prim.Native.Nat.{ℕ}
 use lib.Dec.{ltb}
 use lib.ListN.{get_or, set}
 use lib.Seq.{get_or-set_other}
-use Rattle.completion.specs.declared.Buffer.{Buffer}
-use Rattle.completion.specs.declared.Buffer.TheVariants.{Back, Lost}
+use Rattle.completion.specs.Buffers.{Buffer}
+use Rattle.std.specs.declared.option.Option.TheVariants.{Some as Back, None as Lost}
 use Rattle.completion.specs.declared.Completion.{Completion}
 use Rattle.completion.specs.declared.Reply.{Reply}
 use Rattle.model.specs.declared.Lengths.{Lengths}
 use Rattle.model.specs.declared.Kind.{Kind}
 use Rattle.model.specs.declared.Row.{Row}
 use Rattle.model.specs.declared.Request.{Request}
-use Rattle.model.specs.declared.Asked.{Asked}
-use Rattle.model.specs.declared.Asked.TheVariants.{Yes, No}
+use Rattle.std.specs.declared.result.Result.TheVariants.{Ok, Err}
 use Rattle.model.specs.declared.Call.{Call}
 use Rattle.model.specs.declared.Call.TheVariants.{Write, ReadPage, Answer, Flushed, Take, SetGate, SetReadOnly, SetForced, ReportPoison}
 use Rattle.model.specs.State.{Region, Owner, Owner.host, Owner.table, State}
-use Rattle.step.specs.Questions.{region_at}
+use Rattle.step.specs.Questions.{region_at, Asked}
 use Rattle.step.specs.Rules.{Input, Input.answered, Input.flushed, Fate, Fate.away, Fate.awaits, Fate.ends, Fate.rejected}
 use Rattle.step.specs.Step.{row_at, row_of, names, accepted, submitted, verdict_of, write_verdict, read_verdict, going, freeing, settled, fate_of, under_tag, given_back, taken}
 use Rattle.step.specs.Step.{with_regions, with_poison, marked, with_gate, with_read_only, with_forced, called, eq_lengths, step}
@@ -35,10 +34,10 @@ module _ (s : State) (b : ℕ) where
   another_owner : (k : ℕ) (who : Owner) → k ≢ b → get_or (set s.owners k who) b host ≡ get_or s.owners b host
   another_owner k who n = get_or-set_other s.owners k b who host (λ e. n (sym e))
 
-  pub submitted_same : (q : Request) (k : Kind) (a : Asked) → (a ≡ Yes → q.buffer ≢ b) → SameOwner (submitted s q (verdict_of a s k q))
+  pub submitted_same : (q : Request) (k : Kind) (a : Asked) → (a ≡ Ok tt → q.buffer ≢ b) → SameOwner (submitted s q (verdict_of a s k q))
   unfolding submitted verdict_of accepted
-  submitted_same q k (No f) n = refl
-  submitted_same q k Yes n = another_owner q.buffer table (n refl)
+  submitted_same q k (Err f) n = refl
+  submitted_same q k (Ok _) n = another_owner q.buffer table (n refl)
 
   settled_same : (t : ℕ) (row : Row) (f : Fate) → row.buffer ≢ b → SameOwner (settled s t row f)
   unfolding settled going freeing
@@ -55,7 +54,7 @@ module _ (s : State) (b : ℕ) where
 
   given_same : (buf : Buffer) → buffer_back buf ≢ some b → get_or (given_back s.owners buf) b host ≡ get_or s.owners b host
   unfolding given_back buffer_back
-  given_same (Back k n) other = another_owner k host (λ e. other (ap some e))
+  given_same (Back h) other = another_owner h.buffer host (λ e. other (ap some e))
   given_same Lost other = refl
 
   pub taken_same : (cs : List Completion) → taken_from cs ≢ some b → SameOwner (taken s cs)

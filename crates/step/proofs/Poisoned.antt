@@ -3,8 +3,8 @@ use mathlib.Core.Path.{◌≡◌, ap}
 use mathlib.Core.Option.{Option, none, some}
 use Prim.Native.Nat.{ℕ}
 use Rattle.domain.specs.declared.FirstCause.{FirstCause}
-use Rattle.domain.specs.declared.Poisoned.{Poisoned}
-use Rattle.domain.specs.declared.Poisoned.TheVariants.{First}
+use Rattle.std.specs.declared.option.Option.{Option as StdOption}
+use Rattle.std.specs.declared.option.Option.TheVariants.{Some}
 use Rattle.domain.specs.Domain.{first_kept}
 use Rattle.completion.specs.declared.Reply.{Reply}
 use Rattle.model.specs.declared.Lengths.{Lengths}
@@ -15,14 +15,14 @@ use Rattle.step.specs.Rules.{Fate, Fate.away, Fate.awaits, Fate.ends, Fate.rejec
 use Rattle.step.specs.Step.{submitted, accepted, row_at, row_of, poison_with, going, freeing, settled, fate_of, taken, with_regions, with_poison, step}
 use Rattle.step.proofs.Calls.{by_step}
 
-module _ (s : State) (first : FirstCause) (is : s.poison ≡ First first) where
+module _ (s : State) (first : FirstCause) (is : s.poison ≡ Some first) where
   abbrev Keeps : State × Reply → Type 0
-  Keeps z = z.0.poison ≡ First first
+  Keeps z = z.0.poison ≡ Some first
 
-  kept_with : (cause : Option FirstCause) → poison_with s.poison cause ≡ First first
+  kept_with : (cause : Option FirstCause) → poison_with s.poison cause ≡ Some first
   unfolding poison_with
   kept_with none = is
-  kept_with (some c) = ap (λ (p : Poisoned). first_kept p c) is
+  kept_with (some c) = ap (λ (p : StdOption FirstCause). first_kept p c) is
 
   settled_keeps : (t : ℕ) (row : Row) (f : Fate) → Keeps (settled s t row f)
   unfolding settled going freeing
@@ -34,4 +34,4 @@ module _ (s : State) (first : FirstCause) (is : s.poison ≡ First first) where
   pub first_kept_lem : (l : Lengths) (c : Call) → Keeps (step s l c)
   unfolding submitted accepted taken with_regions with_poison
   first_kept_lem =
-      by_step s Keeps (λ x. is) (λ q r k p. is) (λ t i. let r = row_at s (row_of t) in settled_keeps t r (fate_of s r i)) (λ c more. is) (λ h g e. is) (λ cause. ap (λ (p : Poisoned). first_kept p cause) is)
+      by_step s Keeps (λ x. is) (λ q r k p. is) (λ t i. let r = row_at s (row_of t) in settled_keeps t r (fate_of s r i)) (λ c more. is) (λ h g e. is) (λ cause. ap (λ (p : StdOption FirstCause). first_kept p cause) is)

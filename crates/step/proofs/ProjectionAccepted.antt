@@ -11,11 +11,10 @@ use Rattle.iobuf.proofs.Laws.{turn_laws}
 use Rattle.model.specs.declared.Opening.{Opening}
 use Rattle.model.specs.declared.Kind.{Kind}
 use Rattle.model.specs.declared.Request.{Request}
-use Rattle.model.specs.declared.Asked.{Asked}
-use Rattle.model.specs.declared.Asked.TheVariants.{Yes, No}
+use Rattle.std.specs.declared.result.Result.TheVariants.{Ok, Err}
 use Rattle.model.specs.declared.Row.{Row}
 use Rattle.model.specs.State.{State}
-use Rattle.step.specs.Questions.{held_at}
+use Rattle.step.specs.Questions.{held_at, Asked}
 use Rattle.step.specs.Step.{queue_tag, top_of, row_at, generation_of, is_live, names, claimed_by, one_more, accepted, submitted, verdict_of}
 use Rattle.step.specs.Sound.{Sound}
 use Rattle.step.specs.Alone.{Course.is_open, Alones, tag_given, begins, plan_for}
@@ -94,7 +93,7 @@ module _ (x : Start) (s : State) (i : Sound s) (fx : Fixed x s) (a : Alones) (p 
         })
 
   -- by the questions' answer
-  pub projected_submitted : (y : Asked) → (y ≡ Yes → Passed s q) → Projected (submitted s q (verdict_of y s k q)).0 (begins a k q first (tag_given (submitted s q (verdict_of y s k q)).1))
+  pub projected_submitted : (y : Asked) → (y ≡ Ok tt → Passed s q) → Projected (submitted s q (verdict_of y s k q)).0 (begins a k q first (tag_given (submitted s q (verdict_of y s k q)).1))
   unfolding verdict_of submitted tag_given begins
-  projected_submitted (No f) passes = p
-  projected_submitted Yes passes = projected_accepted (passes refl)
+  projected_submitted (Err f) passes = p
+  projected_submitted (Ok _) passes = projected_accepted (passes refl)

@@ -14,7 +14,8 @@ use lib.Seq.{take-take}
 use Rattle.layout.specs.Pick.{pick}
 use Rattle.layout.proofs.Tests.{not_both, true_or_false}
 use Rattle.iobuf.specs.Turn.{stretch}
-use Rattle.domain.specs.declared.Poisoned.{Poisoned}
+use Rattle.std.specs.declared.option.Option.{Option as StdOption}
+use Rattle.domain.specs.declared.FirstCause.{FirstCause}
 use Rattle.completion.specs.declared.Reply.{Reply}
 use Rattle.model.specs.declared.Row.{Row}
 use Rattle.model.specs.State.{State}
@@ -38,7 +39,7 @@ use Rattle.step.proofs.ProjectionSteps.{alone_to, other_length, fate, fits_is, m
 
 -- ---- the course by what is given
 
-module _ (x : Start) (forced : ℕ → Bool) (first : Poisoned) where
+module _ (x : Start) (forced : ℕ → Bool) (first : StdOption FirstCause) where
   unfoldable pub fed_by : Course → Given → Course
   fed_by (is_open g r bytes) v =
       onward g r bytes (rules x.opening g (forced r.handle) first r (with_left (loose g r.awaits) v.1 bytes) v.0)

@@ -10,7 +10,8 @@ use lib.ListN.{length, drop}
 use lib.Seq.{drop-length, drop-append_seam}
 use Rattle.layout.specs.Pick.{pick}
 use Rattle.layout.proofs.Tests.{true_or_false}
-use Rattle.domain.specs.declared.Poisoned.{Poisoned}
+use Rattle.std.specs.declared.option.Option.{Option as StdOption}
+use Rattle.domain.specs.declared.FirstCause.{FirstCause}
 use Rattle.completion.specs.declared.Completion.{Completion}
 use Rattle.model.specs.declared.Row.{Row}
 use Rattle.model.specs.State.{State}
@@ -51,7 +52,7 @@ onward_buffer b g r bytes (awaits a bytes') e = e
 onward_buffer b g r bytes (ends ending) e = tt
 onward_buffer b g r bytes (rejected f c bytes') e = tt
 
-module _ (x : Start) (forced : ℕ → Bool) (first : Poisoned) (b : ℕ) where
+module _ (x : Start) (forced : ℕ → Bool) (first : StdOption FirstCause) (b : ℕ) where
   fed_buffer : (c : Course) (v : Given) → InBuffer b c → InBuffer b (fed_by x forced first c v)
   unfolding fed_by InBuffer
   fed_buffer (is_open g r bytes) v e = onward_buffer b g r bytes _ e
@@ -167,12 +168,12 @@ module _ (x : Start) (s : State) (a : Alones) (k : Reached x s a) (e : Event) (e
 
 -- ---- a list
 
-pub record Through (x : Start) (forced : ℕ → Bool) (first : Poisoned) (s : State) (a : Alones) (l : List Event) (t b : ℕ) (c : Course) : Type 0 where
+pub record Through (x : Start) (forced : ℕ → Bool) (first : StdOption FirstCause) (s : State) (a : Alones) (l : List Event) (t b : ℕ) (c : Course) : Type 0 where
   pub course : (run_alone x s a l).ops t ≡ some (course_by x forced first c (given s l t))
   pub got : done_of c ++ gets s l t b ≡ done_of (course_by x forced first c (given s l t))
   pub kept : course_by x forced first c (given s l t) ≢ was_refused
 
-pub through : (x : Start) (forced : ℕ → Bool) (first : Poisoned) (t b : ℕ) (l : List Event) (s : State) (a : Alones) → Reached x s a → Fits s l → a.forced ≡ forced → a.first ≡ first
+pub through : (x : Start) (forced : ℕ → Bool) (first : StdOption FirstCause) (t b : ℕ) (l : List Event) (s : State) (a : Alones) → Reached x s a → Fits s l → a.forced ≡ forced → a.first ≡ first
     → (c : Course) → a.ops t ≡ some c → InBuffer b c → c ≢ was_refused → Through x forced first s a l t b c
 unfolding given gets alones course_by
 through x forced first t b [] s a k f fo fi c op buf n = record { course = op; got = append-nil (done_of c); kept = n }

@@ -11,12 +11,13 @@ use lib.Dec.{eqb}
 use Rattle.layout.proofs.Tests.{not_both, and_left, and_right, and_both}
 use Rattle.regionmap.specs.declared.Position.{Position}
 use Rattle.regionmap.specs.Map.{piece_size}
-use Rattle.domain.specs.declared.Poisoned.{Poisoned}
+use Rattle.std.specs.declared.option.Option.{Option}
+use Rattle.domain.specs.declared.FirstCause.{FirstCause}
 use Rattle.platform.specs.declared.Answer.{Answer}
 use Rattle.platform.specs.declared.Answer.TheVariants.{Count, Error, Refused, RefusedWith}
 use Rattle.platform.specs.declared.Flushed.{Flushed}
 use Rattle.completion.specs.declared.WriteTicket.{WriteTicket}
-use Rattle.completion.specs.declared.Buffer.{Buffer}
+use Rattle.completion.specs.Buffers.{Buffer}
 use Rattle.model.specs.declared.Opening.{Opening}
 use Rattle.model.specs.declared.Kind.{Kind}
 use Rattle.model.specs.declared.Kind.TheVariants.{Page, Read}
@@ -52,7 +53,7 @@ pub piece_most : (g : Plan) (k : Kind) (s : Split) → piece_length g k s ≤ le
 unfolding piece_length piece_of piece_size
 piece_most g k s = omega arith
 
-module _ (o : Opening) (s : State) (forced : Bool) (first : Poisoned) (r : Row) (bytes : List ℕ) where
+module _ (o : Opening) (s : State) (forced : Bool) (first : Option FirstCause) (r : Row) (bytes : List ℕ) where
   abbrev g : Plan
   g = plan_at s r
 

@@ -10,13 +10,14 @@ use lib.ListN.{get_or, set}
 use lib.Seq.{get_or-set_same}
 use Rattle.layout.specs.Pick.{pick}
 use Rattle.layout.proofs.Tests.{not_both, and_right}
-use Rattle.domain.specs.declared.Poisoned.{Poisoned}
+use Rattle.std.specs.declared.option.Option.{Option}
+use Rattle.domain.specs.declared.FirstCause.{FirstCause}
 use Rattle.platform.specs.declared.Answer.{Answer as CardAnswer}
 use Rattle.platform.specs.declared.Answer.TheVariants.{Count, Error, Refused, RefusedWith}
 use Rattle.completion.specs.declared.Refusal.TheVariants.{UnknownTag}
 use Rattle.completion.specs.declared.Reply.{Reply}
 use Rattle.completion.specs.declared.Reply.TheVariants.{No as turnedAway}
-use Rattle.completion.specs.declared.Buffer.TheVariants.{Back}
+use Rattle.std.specs.declared.option.Option.TheVariants.{Some as Back}
 use Rattle.model.specs.declared.Opening.{Opening}
 use Rattle.model.specs.declared.Lengths.{Lengths}
 use Rattle.model.specs.declared.Kind.{Kind}
@@ -63,7 +64,7 @@ module _ (s : State) (t : ℕ) (a : CardAnswer) (flushes : ℕ) where
     set_lost : get_or (set s.owners row.buffer lost) row.buffer host ≡ lost
     set_lost = get_or-set_same s.owners row.buffer lost host (had_in s.owners row.buffer (row_had s sound t named))
 
-    module _ (o : Opening) (g : Plan) (forced : Bool) (first : Poisoned) (bytes : List ℕ) where
+    module _ (o : Opening) (g : Plan) (forced : Bool) (first : Option FirstCause) (bytes : List ℕ) where
       last_loses : (k : Kind) (sp : Split) → LosesBy (last_piece o g forced first row k sp bytes a false flushes)
       unfolding last_piece buffer_as settled freeing kept_by
       last_loses (Read x y) sp = λ e. set_lost
@@ -88,7 +89,7 @@ module _ (s : State) (t : ℕ) (a : CardAnswer) (flushes : ℕ) where
 
 -- ---- the first piece is refused
 
-module _ (o : Opening) (g : Plan) (forced : Bool) (first : Poisoned) (r : Row) (k : Kind) (sp : Split) (piece : ℕ) (bytes : List ℕ) (back : Bool) (flushes : ℕ) (begins : sp.done ≡ 0) where
+module _ (o : Opening) (g : Plan) (forced : Bool) (first : Option FirstCause) (r : Row) (k : Kind) (sp : Split) (piece : ℕ) (bytes : List ℕ) (back : Bool) (flushes : ℕ) (begins : sp.done ≡ 0) where
   piece_refused : (a : CardAnswer) → is_refusal a ≡ true → piece_answered o g forced first r k sp piece bytes a back flushes ≡ rejected (error_of a) (buffer_as back r.buffer sp.total) bytes
   unfolding piece_answered above_piece first_refused is_refusal pick
   piece_refused (Count n) e = absurd (not_both e refl)
@@ -117,7 +118,7 @@ module _ (s : State) (l : Lengths) (t : ℕ) (k : Kind) (sp : Split) (a : CardAn
       ∙ ap (λ (b : Bool). pick b (settled s t it (fate_of s it (answered a back flushes))) (s, turnedAway UnknownTag)) named
       ∙ ap (settled s t it) fate_is
 
-  its_own : Sound s → held_at (settled s t it (rejected (error_of a) (Back it.buffer sp.total) (bytes_at s it.buffer))).0 it.buffer ≡ true
+  its_own : Sound s → held_at (settled s t it (rejected (error_of a) (Back (record { buffer = it.buffer; len = sp.total })) (bytes_at s it.buffer))).0 it.buffer ≡ true
   unfolding settled freeing kept_by held_at
   its_own sound = ap is_host (get_or-set_same s.owners it.buffer host lost (had_in s.owners it.buffer (row_had s sound t named))) ∙ (unfold is_host in refl)
 

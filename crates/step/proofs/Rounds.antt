@@ -14,15 +14,15 @@ use Rattle.regionmap.specs.Map.{span_from, map_run, map_run_end, map_run_left, p
 use Rattle.regionmap.specs.Words.{position_of, runs_in, map_in}
 use Rattle.iobuf.specs.Turn.{turned, stretch, with_stretch}
 use Rattle.iobuf.proofs.Laws.{turned_all, turn_laws}
-use Rattle.domain.specs.declared.Poisoned.TheVariants.{Never}
+use Rattle.std.specs.declared.option.Option.TheVariants.{None}
 use Rattle.platform.specs.declared.Answer.TheVariants.{Count}
 use Rattle.completion.specs.declared.WriteTicket.{WriteTicket}
 use Rattle.completion.specs.declared.Outcome.TheVariants.{Written}
-use Rattle.completion.specs.declared.Buffer.TheVariants.{Back}
+use Rattle.std.specs.declared.option.Option.TheVariants.{Some as Back}
 use Rattle.model.specs.declared.Kind.TheVariants.{Page}
 use Rattle.model.specs.declared.Row.{Row}
 use Rattle.model.specs.declared.Call.TheVariants.{Write, Take}
-use Rattle.model.specs.declared.Asked.TheVariants.{Yes}
+use Rattle.std.specs.declared.result.Result.TheVariants.{Ok}
 use Rattle.model.specs.State.{Owner.host, Owner.table, State, freed, up_from}
 use Rattle.model.specs.Opening.{at_first, opened, plan_in, plans_in}
 use Rattle.step.specs.Questions.{ask, first_no, handle_names_region, buffer_in_pool, is_host, held_at, host_holds_buffer, room_in_table, lifetime_left, gate_open, store_writable, unpoisoned}
@@ -43,7 +43,7 @@ module _ (pool : List ℕ) where
   -- before it: row 0 at a generation, n submissions so far
   at : ℕ → ℕ → State
   at g n =
-      record { settings = long_opening; lengths = figures_lengths; regions = map at_first (plans_in 1 figures_plan); poison = Never; counts = record { live = 0; ready = 0; submissions = n }; rows = freed g ∷ freed 0 ∷ []; free = 0 ∷ 1 ∷ []; ready = []; owners = host ∷ host ∷ host ∷ []; pool = pool }
+      record { settings = long_opening; lengths = figures_lengths; regions = map at_first (plans_in 1 figures_plan); poison = None; counts = record { live = 0; ready = 0; submissions = n }; rows = freed g ∷ freed 0 ∷ []; free = 0 ∷ 1 ∷ []; ready = []; owners = host ∷ host ∷ host ∷ []; pool = pool }
 
   -- its write is accepted
   held : ℕ → ℕ → State
@@ -54,16 +54,16 @@ module _ (pool : List ℕ) where
 
   -- the write is complete
   complete : ℕ → ℕ → State
-  complete g n = freeing (held g n) 0 (row g n) (raised g) (completion_of (row g n) (Written ticket) (Back 0 512) ∷ []) table (turned 512 512 (bytes_at (held g n) 0)) none
+  complete g n = freeing (held g n) 0 (row g n) (raised g) (completion_of (row g n) (Written ticket) (Back (record { buffer = 0; len = 512 })) ∷ []) table (turned 512 512 (bytes_at (held g n) 0)) none
 
   -- ---- the write
 
-  left : (g n : ℕ) → n < 2 ^ 62 → lifetime_left (at g n).settings.lifetime (at g n).counts (id_of (region_at (at g n) 0)) ≡ Yes
+  left : (g n : ℕ) → n < 2 ^ 62 → lifetime_left (at g n).settings.lifetime (at g n).counts (id_of (region_at (at g n) 0)) ≡ Ok tt
   unfolding at long_opening lifetime_left ask
   left g n h = rw (lt-ltb n (2 ^ 62) h)
 
   -- only the lifetime's question does not compute
-  yes_all : (g n : ℕ) → n < 2 ^ 62 → first_no (write_questions (at g n) (region_at (at g n) 0) (asking 512 512)) ≡ Yes
+  yes_all : (g n : ℕ) → n < 2 ^ 62 → first_no (write_questions (at g n) (region_at (at g n) 0) (asking 512 512)) ≡ Ok tt
   unfolding write_questions
   yes_all g n h =
       rw (left g n h)
@@ -80,7 +80,7 @@ module _ (pool : List ℕ) where
   unfolding is_live row_at held accepted at claimed_by freed
   named g n t e = names_by (row g n) t refl (sym e)
 
-  fate : (g n : ℕ) → fate_of (held g n) (row g n) (answered (Count 512) true 0) ≡ ends (record { outcome = Written ticket; buffer = Back 0 512; bytes = turned 512 512 (bytes_at (held g n) 0); cause = none })
+  fate : (g n : ℕ) → fate_of (held g n) (row g n) (answered (Count 512) true 0) ≡ ends (record { outcome = Written ticket; buffer = Back (record { buffer = 0; len = 512 }); bytes = turned 512 512 (bytes_at (held g n) 0); cause = none })
   unfolding fate_of row_at held accepted claimed_by at rules answer_rules piece_answered piece_length piece_of first_of last_of last_piece pick above_piece first_refused is_refusal goes_on is_whole is_written
       written_as buffer_as turned_back ticket_of plan_of region_at at_first plans_in plan_in figures_plan map_in runs_in long_opening asking durable_as span_from map_run map_run_end map_run_left place piece_size ticket
   fate g n = refl

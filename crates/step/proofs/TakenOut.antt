@@ -4,8 +4,8 @@ use mathlib.Core.List.{List, [], ◌∷◌}
 use Prim.Native.Nat.{ℕ, ◌+◌, ◌≤◌}
 use native.Mathlib.Omega.{arith}
 use lib.ListN.{length, get_or, length-set}
-use Rattle.completion.specs.declared.Buffer.{Buffer}
-use Rattle.completion.specs.declared.Buffer.TheVariants.{Back, Lost}
+use Rattle.completion.specs.Buffers.{Buffer}
+use Rattle.std.specs.declared.option.Option.TheVariants.{Some as Back, None as Lost}
 use Rattle.completion.specs.declared.Completion.{Completion}
 use Rattle.model.specs.State.{Owner, Owner.host, Owner.lost, State}
 use Rattle.step.specs.Questions.{region_at}
@@ -17,18 +17,18 @@ use Rattle.step.proofs.Marked.{in_another}
 
 given_length : (owners : List Owner) (buf : Buffer) → length (given_back owners buf) ≡ length owners
 unfolding given_back
-given_length owners (Back b n) = simp length-set
+given_length owners (Back h) = simp length-set
 given_length owners Lost = refl
 
 -- with the buffer given back, those who are left hold what the table has
 given_holders : (owners : List Owner) (buf : Buffer) (others : ℕ → ℕ) → ((b : ℕ) → holds b buf + others b ≡ table_has (get_or owners b lost)) → (b : ℕ) → others b ≡ table_has (get_or (given_back owners buf) b lost)
 unfolding given_back table_has holds
-given_holders owners (Back k n) others all =
-    by_place owners k host lost
-    (within owners k lost (λ w. 1 ≤ table_has w) (λ past. omega arith) (omega (arith, all k, back_holds_own k n)))
+given_holders owners (Back h) others all =
+    by_place owners h.buffer host lost
+    (within owners h.buffer lost (λ w. 1 ≤ table_has w) (λ past. omega arith) (omega (arith, all h.buffer, back_holds_own h.buffer h.len)))
     (λ b w. others b ≡ table_has w)
-    (omega (arith, all k, back_holds_own k n, has_most (get_or owners k lost)))
-    (λ b ne. omega (arith, all b, back_holds_other b k n ne))
+    (omega (arith, all h.buffer, back_holds_own h.buffer h.len, has_most (get_or owners h.buffer lost)))
+    (λ b ne. omega (arith, all b, back_holds_other b h.buffer h.len ne))
 given_holders owners Lost others all = λ b. omega (arith, all b)
 
 -- the oldest of those that are ready

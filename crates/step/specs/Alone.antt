@@ -8,7 +8,8 @@ use Rattle.std.specs.Prelude.{Bool, false, List, [], ◌∷◌, ◌++◌, ℕ, �
 use Rattle.std.proofs.Math.Option.{Option, none, some}
 use Rattle.layout.specs.Pick.{pick}
 use Rattle.iobuf.specs.Turn.{stretch}
-use Rattle.domain.specs.declared.{FirstCause.FirstCause, Poisoned.Poisoned}
+use Rattle.domain.specs.declared.FirstCause.{FirstCause}
+use Rattle.std.specs.declared.option.Option.{Option as StdOption}
 use Rattle.domain.specs.Domain.{first_kept}
 use Rattle.completion.specs.declared.Reply.{Reply}
 use Rattle.model.specs.declared.{Opening.Opening, Lengths.Lengths, Kind.Kind, Row.Row, Request.Request, Call.Call}
@@ -32,19 +33,19 @@ pub record Alones : Type 0 where
   pub ops : ℕ → Option Course
   pub plans : List Plan
   pub forced : ℕ → Bool
-  pub first : Poisoned
+  pub first : StdOption FirstCause
   pub count : ℕ
 
 -- "At first .. no region is .. forced, nothing is poisoned"
 unfoldable pub none_yet : List Plan → Alones
-none_yet ps = record { ops = λ t. none; plans = ps; forced = λ h. false; first = Poisoned.Never; count = 0 }
+none_yet ps = record { ops = λ t. none; plans = ps; forced = λ h. false; first = StdOption.None; count = 0 }
 
 -- with other operations
 abbrev pub ops_as : (ℕ → Option Course) → Alones → Alones
 ops_as ops a = record { ops = ops; plans = a.plans; forced = a.forced; first = a.first; count = a.count }
 
 -- with another first cause
-abbrev pub first_as : Poisoned → Alones → Alones
+abbrev pub first_as : StdOption FirstCause → Alones → Alones
 first_as p a = record { ops = a.ops; plans = a.plans; forced = a.forced; first = p; count = a.count }
 
 -- with other forced marks

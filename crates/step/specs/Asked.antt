@@ -6,10 +6,11 @@ use Rattle.domain.specs.declared.FirstCause.{FirstCause}
 use Rattle.platform.specs.declared.{Answer.Answer, Flushed.Flushed}
 use Rattle.completion.specs.declared.Context.TheVariants as Context
 use Rattle.completion.specs.declared.{Refusal.Refusal, Reply.Reply}
-use Rattle.model.specs.declared.{Lengths.Lengths, Kind.Kind, Awaits.Awaits, Request.Request, Call.Call, Asked.Asked}
+use Rattle.model.specs.declared.{Lengths.Lengths, Kind.Kind, Awaits.Awaits, Request.Request, Call.Call}
+use Rattle.std.specs.declared.result.Result.{Result}
 use Rattle.model.specs.State.{State}
 use Rattle.model.specs.Opening.{Plan}
-use Rattle.step.specs.Questions.{ask, region_at, first_no, write_questions, read_questions, whole_of}
+use Rattle.step.specs.Questions.{ask, region_at, first_no, write_questions, read_questions, whole_of, Asked}
 use Rattle.step.specs.Rules.{piece_length, above_piece}
 use Rattle.step.specs.Step.{start_of, end_of, begun, queue_tag, top_of, row_at, accepted, row_of, names, plan_of, asks_for, step, eq_lengths}
 use Rattle.step.specs.Laws.{one, SaysEach}
@@ -63,8 +64,8 @@ first_reply s k q =
     (Awaits.Piece k (begun (whole_of q)))
 
 abbrev pub answer_of : Option Refusal → Asked
-answer_of none = Asked.Yes
-answer_of (some f) = Asked.No f
+answer_of none = Result.Ok tt
+answer_of (some f) = Result.Err f
 
 -- whether a reply turns away, and by which refusal
 unfoldable pub asked_by : Reply → Asked
@@ -78,18 +79,18 @@ pub record AskedLaws : Type 0 where
   pub read_asked : (s : State) (l : Lengths) (q : Request) → eq_lengths l s.lengths ≡ true
       → asked_by (step s l (Call.ReadPage q)).1 ≡ first_no (read_questions s (region_at s q.handle) q)
   pub write_accepted : (s : State) (l : Lengths) (q : Request) → eq_lengths l s.lengths ≡ true
-      → first_no (write_questions s (region_at s q.handle) q) ≡ Asked.Yes
+      → first_no (write_questions s (region_at s q.handle) q) ≡ Result.Ok tt
       → step s l (Call.Write q) ≡ (accepted s (top_of s.free) (Kind.Page (start_of q) (end_of q)) q, first_reply s (Kind.Page (start_of q) (end_of q)) q)
   pub read_accepted : (s : State) (l : Lengths) (q : Request) → eq_lengths l s.lengths ≡ true
-      → first_no (read_questions s (region_at s q.handle) q) ≡ Asked.Yes
+      → first_no (read_questions s (region_at s q.handle) q) ≡ Result.Ok tt
       → step s l (Call.ReadPage q)
       ≡ (accepted s (top_of s.free) (Kind.Read (start_of q) (end_of q)) q, first_reply s (Kind.Read (start_of q) (end_of q)) q)
   -- a setting is turned away exactly where the handle names no region; a taking and a report never are
   pub set_asked : (s : State) (l : Lengths) (c : Call) (h : ℕ) → sets_mark c ≡ some h → eq_lengths l s.lengths ≡ true
       → asked_by (step s l c).1 ≡ ask (ltb h s.settings.regions) (Refusal.ForeignPosition Context.None)
-  pub take_asked : (s : State) (l : Lengths) → eq_lengths l s.lengths ≡ true → asked_by (step s l Call.Take).1 ≡ Asked.Yes
+  pub take_asked : (s : State) (l : Lengths) → eq_lengths l s.lengths ≡ true → asked_by (step s l Call.Take).1 ≡ Result.Ok tt
   pub report_asked : (s : State) (l : Lengths) (cause : FirstCause) → eq_lengths l s.lengths ≡ true
-      → asked_by (step s l (Call.ReportPoison cause)).1 ≡ Asked.Yes
+      → asked_by (step s l (Call.ReportPoison cause)).1 ≡ Result.Ok tt
   -- an answer and a flush result are turned away exactly by the first question that fails, whatever the table
   pub answer_asked_lem : (s : State) (l : Lengths) (t : ℕ) (a : Answer) (back : Bool) (flushes : ℕ) → eq_lengths l s.lengths ≡ true
       → asked_by (step s l (Call.Answer t a back flushes)).1 ≡ first_no (answer_questions s t a)
@@ -99,9 +100,9 @@ pub record AskedLaws : Type 0 where
   pub answer_asks : (s : State) (l : Lengths) (t : ℕ) (a : Answer) (back : Bool) (flushes : ℕ)
       → let s' = (step s l (Call.Answer t a back flushes)).0 in
       let r = row_at s' (row_of t) in
-      asked_by (step s l (Call.Answer t a back flushes)).1 ≡ Asked.Yes → names r t ≡ true → (step s l (Call.Answer t a back flushes)).1
+      asked_by (step s l (Call.Answer t a back flushes)).1 ≡ Result.Ok tt → names r t ≡ true → (step s l (Call.Answer t a back flushes)).1
       ≡ asks_for (plan_of (region_at s' r.handle)) t r.buffer r.awaits
-  pub flush_done_lem : (s : State) (l : Lengths) (t : ℕ) (result : Flushed) → asked_by (step s l (Call.Flushed t result)).1 ≡ Asked.Yes
+  pub flush_done_lem : (s : State) (l : Lengths) (t : ℕ) (result : Flushed) → asked_by (step s l (Call.Flushed t result)).1 ≡ Result.Ok tt
       → (step s l (Call.Flushed t result)).1 ≡ Reply.Done t
   pub answer_numbers : (s : State) (t : ℕ) (a : Answer) → SaysEach (one 14 ∷ one 15 ∷ one 16 ∷ []) (answer_questions s t a)
   pub flush_numbers : (s : State) (t : ℕ) → SaysEach (one 14 ∷ one 15 ∷ []) (flush_questions s t)

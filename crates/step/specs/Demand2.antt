@@ -9,10 +9,11 @@ use Rattle.regionmap.specs.Map.{Map, place, pieces}
 use Rattle.iobuf.specs.Turn.{stretch}
 use Rattle.posix.specs.Posix.{Card, pread}
 use Rattle.posix.specs.Transfer.{gathered}
-use Rattle.domain.specs.declared.Poisoned.{Poisoned}
+use Rattle.std.specs.declared.option.Option.{Option as StdOption}
+use Rattle.domain.specs.declared.FirstCause.{FirstCause}
 use Rattle.platform.specs.declared.Flushed.{Flushed}
 use Rattle.completion.specs.declared.{WriteTicket.WriteTicket, Outcome.Outcome, Completion.Completion, Reply.Reply}
-use Rattle.completion.specs.declared.Buffer.TheVariants as Buffer
+use Rattle.std.specs.declared.option.Option.TheVariants.{Some as Back, None as Lost}
 use Rattle.model.specs.declared.{Opening.Opening, Kind.Kind, Split.Split, Awaits.Awaits, Row.Row, Request.Request}
 use Rattle.model.specs.declared.Call.TheVariants as Call
 use Rattle.model.specs.State.{State}
@@ -129,11 +130,11 @@ answers_in (g ∷ gs) = answers_of g.0 (answers_in gs)
 
 -- what a write comes to whose pieces were all taken whole, with the ticket of its own range: "Plain ends there." "Durable without either ends
 -- Poisoned if the store is poisoned, else with a receipt of need 2^64 − 1." "A flush result completes the row".
-unfoldable pub durably_to : Opening → Poisoned → WriteTicket → Option Flushed → Outcome
+unfoldable pub durably_to : Opening → StdOption FirstCause → WriteTicket → Option Flushed → Outcome
 durably_to o first t none = unflushed o first t
 durably_to o first t (some result) = flush_outcome o t result
 
-unfoldable pub written_to : Opening → Poisoned → Bool → WriteTicket → Option Flushed → Outcome
+unfoldable pub written_to : Opening → StdOption FirstCause → Bool → WriteTicket → Option Flushed → Outcome
 written_to o first durable t result = pick durable (durably_to o first t result) (Outcome.Written t)
 
 -- the operation under a queue tag is over: its tag names no row any more
@@ -183,7 +184,7 @@ pub record Wrote (x : Start) (h : List Event) (e : Event) (t : ℕ) (q : Request
           outcome = written_to x.opening (run (submitted_in x h e) es).poison q.durable
               (ticket_of x.opening (plan_of (region_at (after x h) q.handle)) (Kind.Page (start_of q) (end_of q))
               (count_given 0 (given_to x h e t es))) (result_given (given_to x h e t es));
-          buf = Buffer.Back q.buffer (whole_of q);
+          buf = Back (record { buffer = q.buffer; len = (whole_of q) });
         },
         buffer_then x e q,
       )
@@ -202,7 +203,7 @@ pub record DidRead (x : Start) (h : List Event) (e : Event) (t : ℕ) (q : Reque
   pub completes : Over (run (submitted_in x h e) es) t
       → gets_in x h e t q es
       ≡ (
-        record { tag = q.tag; outcome = Outcome.Read (whole_of q); buf = Buffer.Back q.buffer (whole_of q) },
+        record { tag = q.tag; outcome = Outcome.Read (whole_of q); buf = Back (record { buffer = q.buffer; len = (whole_of q) }) },
         gathered card
             (region_at (after x h) q.handle).map q.offset.0 (whole_of q) ++ drop (whole_of q) (buffer_then x e q),
       )

@@ -7,12 +7,12 @@ use Rattle.std.proofs.Math.Option.{Option, none, some}
 use Rattle.regionmap.specs.declared.FoundPiece.{FoundPiece}
 use Rattle.regionmap.specs.Words.{position_of, offset_of}
 use Rattle.domain.specs.declared.Op.TheVariants as Op
-use Rattle.domain.specs.declared.OsError.TheVariants as OsError
+use Rattle.std.specs.declared.option.Option.{Option as StdOption}
 use Rattle.domain.specs.declared.FirstCause.{FirstCause}
 use Rattle.platform.specs.declared.Answer.TheVariants as Answer
 use Rattle.platform.specs.declared.Flushed.TheVariants as Flushed
 use Rattle.completion.specs.declared.{WriteTicket.WriteTicket, Range.Range, Outcome.Outcome, Completion.Completion, Refusal.Refusal, Reply.Reply}
-use Rattle.completion.specs.declared.Buffer.TheVariants as Buffer
+use Rattle.std.specs.declared.option.Option.TheVariants.{Some as Back, None as Lost}
 use Rattle.completion.specs.Numbers.{number, Values, Values.nothing, Values.region, Values.range, values}
 use Rattle.model.specs.declared.{Opening.Opening, Lengths.Lengths, Request.Request, Call.Call}
 use Rattle.model.specs.State.{State}
@@ -114,7 +114,7 @@ range_there = record { region = 7; start = position_of 512; end = position_of 15
 
 -- the cause write, with no error
 unfoldable pub by_write : FirstCause
-by_write = record { op = Op.Write; raw = OsError.None }
+by_write = record { op = Op.Write; raw = StdOption.None }
 
 -- the same opening with the longest lifetime: "1 to 2^62 submissions."
 unfoldable pub long_opening : Opening
@@ -182,7 +182,7 @@ pub record Figures : Type 0 where
   -- "*Answer 512: written 512 to 1,536, need 1."
   pub done_then : reply_after (Call.Write (asking 512 1024) ∷ answers 0 512 ∷ []) (answers 0 512) ≡ Reply.Done 0
   pub written : reply_after (Call.Write (asking 512 1024) ∷ answers 0 512 ∷ answers 0 512 ∷ []) Call.Take
-      ≡ Reply.Took (record { tag = 70; outcome = Outcome.Written (ticket_there 1); buf = Buffer.Back 0 1024 })
+      ≡ Reply.Took (record { tag = 70; outcome = Outcome.Written (ticket_there 1); buf = Back (record { buffer = 0; len = 1024 }) })
   -- "*Row 0 then gives tag 4,294,967,296."
   pub next_tag : reply_after (Call.Write (asking 512 1024) ∷ answers 0 512 ∷ answers 0 512 ∷ Call.Take ∷ []) (Call.Write (asking 512 1024))
       ≡ Reply.Piece 4294967296 (offset_of 1536) 512 0
@@ -210,10 +210,10 @@ pub record Figures : Type 0 where
       (Call.Write (in_buffer 2 (asking 512 512)))) ≡ some 3
   -- "Two pieces of 512, second answered 100: *the read ends 612"
   pub read_612 : reply_after (Call.ReadPage (asking 512 1024) ∷ answers 0 512 ∷ answers 0 100 ∷ []) Call.Take
-      ≡ Reply.Took (record { tag = 70; outcome = Outcome.Read 612; buf = Buffer.Back 0 612 })
+      ≡ Reply.Took (record { tag = 70; outcome = Outcome.Read 612; buf = Back (record { buffer = 0; len = 612 }) })
   -- "*the write poisons"
   pub write_unknown : reply_after (Call.Write (asking 512 1024) ∷ answers 0 512 ∷ answers 0 100 ∷ []) Call.Take
-      ≡ Reply.Took (record { tag = 70; outcome = Outcome.Unknown range_there by_write; buf = Buffer.Back 0 1024 })
+      ≡ Reply.Took (record { tag = 70; outcome = Outcome.Unknown range_there by_write; buf = Back (record { buffer = 0; len = 1024 }) })
   pub poisons : reply_after (Call.Write (asking 512 1024) ∷ answers 0 512 ∷ answers 0 100 ∷ []) (Call.Write (in_buffer 1 (asking 512 512)))
       ≡ Reply.No (Refusal.Poisoned by_write)
   -- "*Generation 4,294,967,295 released: 0." (and ours: the generation after any number of rounds that the lifetime allows)

@@ -8,14 +8,15 @@ use Rattle.regionmap.specs.Map.{Map, place, pieces, Piece as MapPiece}
 use Rattle.regionmap.specs.Words.{offset_of}
 use Rattle.posix.specs.Transfer.{CardAndPool, Operation, wrote, read_in, whole, OneWrite, OneRead}
 use Rattle.domain.specs.declared.FirstCause.{FirstCause}
-use Rattle.domain.specs.declared.Poisoned.TheVariants as Poisoned
+use Rattle.std.specs.declared.option.Option.{Option}
 use Rattle.completion.specs.declared.Refusal.{Refusal}
 use Rattle.completion.specs.declared.Reply.TheVariants as Reply
 use Rattle.completion.specs.Numbers.{number}
-use Rattle.model.specs.declared.{Opening.Opening, Lengths.Lengths, Split.Split, Request.Request, Call.Call, Lookup.Lookup, Asked.Asked}
+use Rattle.model.specs.declared.{Opening.Opening, Lengths.Lengths, Split.Split, Request.Request, Call.Call, Lookup.Lookup}
+use Rattle.std.specs.declared.result.Result.{Result}
 use Rattle.model.specs.State.{State, Region}
 use Rattle.model.specs.Opening.{among, opened, plans_in, opens}
-use Rattle.step.specs.Questions.{region_at, first_no, write_questions, read_questions, whole_of}
+use Rattle.step.specs.Questions.{region_at, first_no, write_questions, read_questions, whole_of, Asked}
 use Rattle.step.specs.Rules.{piece_of}
 use Rattle.step.specs.Step.{begun, step, look, eq_lengths}
 use Rattle.step.specs.Run.{Event, leave, run, Pools}
@@ -25,8 +26,8 @@ use Rattle.step.specs.Sound.{Sound}
 
 -- the answer is yes, or a refusal with one of these numbers
 unfoldable pub says_one : List ℕ → Asked → Bool
-says_one ns Asked.Yes = true
-says_one ns (Asked.No f) = among (number f) ns
+says_one ns (Result.Ok _) = true
+says_one ns (Result.Err f) = among (number f) ns
 
 unfoldable pub SaysEach : List (List ℕ) → List Asked → Type 0
 SaysEach [] [] = Unit {0}
@@ -82,17 +83,17 @@ pub record StepLaws : Type 0 where
   pub another_length : (s : State) (l : Lengths) (c : Call) → eq_lengths l s.lengths ≡ false → (step s l c).1 ≡ Reply.No Refusal.Unfit
   pub another_length_looked : (s : State) (l : Lengths) (x : Lookup) → eq_lengths l s.lengths ≡ false → look s l x ≡ Reply.No Refusal.Unfit
   -- "the first cause kept": no call changes the poison of a poisoned store
-  pub first_kept_lem : (s : State) (l : Lengths) (c : Call) (first : FirstCause) → s.poison ≡ Poisoned.First first
-      → (step s l c).0.poison ≡ Poisoned.First first
+  pub first_kept_lem : (s : State) (l : Lengths) (c : Call) (first : FirstCause) → s.poison ≡ Option.Some first
+      → (step s l c).0.poison ≡ Option.Some first
   -- the questions have the paper's numbers, in its order
   pub write_numbers_lem : (s : State) (g : Region) (q : Request) → SaysEach write_numbers (write_questions s g q)
   pub read_numbers_lem : (s : State) (g : Region) (q : Request) → SaysEach read_numbers (read_questions s g q)
   -- the pieces of an operation are the map's for its range
   pub issued : (m : Map) (start total : ℕ) → issued_up_to total m start (begun total) ≡ map (on_card m) (pieces m start total)
   -- and those of an accepted one, each taken whole, act like one transfer, over any pool of the table's length
-  pub write : (s : State) (q : Request) → Sound s → first_no (write_questions s (region_at s q.handle) q) ≡ Asked.Yes → (x : CardAndPool)
+  pub write : (s : State) (q : Request) → Sound s → first_no (write_questions s (region_at s q.handle) q) ≡ Result.Ok tt → (x : CardAndPool)
       → length x.pool ≡ s.lengths.pool
       → OneWrite (operation_of s q) x (whole wrote (operation_of s q) x)
-  pub read : (s : State) (q : Request) → Sound s → first_no (read_questions s (region_at s q.handle) q) ≡ Asked.Yes → (x : CardAndPool)
+  pub read : (s : State) (q : Request) → Sound s → first_no (read_questions s (region_at s q.handle) q) ≡ Result.Ok tt → (x : CardAndPool)
       → length x.pool ≡ s.lengths.pool
       → OneRead (operation_of s q) x (whole read_in (operation_of s q) x)

@@ -4,9 +4,11 @@ use Rattle.std.specs.Prelude.{◌≡◌, ◌≢◌, Bool, true, false, List, [],
 use Rattle.std.proofs.Math.Option.{Option, none, some}
 use Rattle.regionmap.specs.declared.Position.{Position}
 use Rattle.domain.specs.declared.FirstCause.{FirstCause}
-use Rattle.domain.specs.declared.Poisoned.TheVariants as Poisoned
+use Rattle.std.specs.declared.option.Option.{Option as StdOption}
 use Rattle.platform.specs.declared.Answer.{Answer as CardAnswer}
-use Rattle.completion.specs.declared.{Buffer.Buffer, Completion.Completion, Reply.Reply}
+use Rattle.completion.specs.declared.{Completion.Completion, Reply.Reply}
+use Rattle.completion.specs.Buffers.{Buffer}
+use Rattle.std.specs.declared.option.Option.TheVariants.{Some as Back, None as Lost}
 use Rattle.model.specs.declared.{Lengths.Lengths, Gate.Gate, Kind.Kind, Split.Split, Request.Request, Call.Call}
 use Rattle.model.specs.declared.Awaits.TheVariants as Awaits
 use Rattle.model.specs.declared.Lookup.TheVariants as Lookup
@@ -24,8 +26,8 @@ IsLost s b = get_or s.owners b host ≡ lost
 
 -- the buffer of a completion, if it came back
 unfoldable pub buffer_back : Buffer → Option ℕ
-buffer_back (Buffer.Back b n) = some b
-buffer_back Buffer.Lost = none
+buffer_back (Back h) = some h.buffer
+buffer_back Lost = none
 
 -- the buffer that a call is about: a request's, that of the row under a queue tag, or that of the completion that is taken
 unfoldable pub taken_from : List Completion → Option ℕ
@@ -95,7 +97,7 @@ pub record OtherLaws : Type 0 where
   -- "Completions are taken oldest first; taking one gives its buffer back, if it came back. With none ready the reply is none and nothing changes."
   pub takes : (s : State) (l : Lengths) (c : Completion) (more : List Completion) → Sound s → eq_lengths l s.lengths ≡ true → s.ready ≡ c ∷ more
       → ((step s l Call.Take).1 ≡ Reply.Took c) × ((step s l Call.Take).0.ready ≡ more)
-      × ((b n : ℕ) → c.buf ≡ Buffer.Back b n → held_at (step s l Call.Take).0 b ≡ true)
+      × ((b n : ℕ) → c.buf ≡ Back (record { buffer = b; len = n }) → held_at (step s l Call.Take).0 b ≡ true)
   pub takes_none : (s : State) (l : Lengths) → eq_lengths l s.lengths ≡ true → s.ready ≡ [] → step s l Call.Take ≡ (s, Reply.None)
   -- "set a region's gate, read-only or forced mark": of a handle that names a region
   pub sets_gate : (s : State) (l : Lengths) (h : ℕ) (x : Gate) → Sound s → eq_lengths l s.lengths ≡ true → h < s.settings.regions
@@ -105,9 +107,9 @@ pub record OtherLaws : Type 0 where
   pub sets_forced : (s : State) (l : Lengths) (h : ℕ) (x : Bool) → Sound s → eq_lengths l s.lengths ≡ true → h < s.settings.regions
       → MarksSet s (step s l (Call.SetForced h x)).0 (step s l (Call.SetForced h x)).1 h (region_at s h).gate (region_at s h).read_only x
   -- "report poison with a cause (the first is kept)": the first, and a later one
-  pub reports : (s : State) (l : Lengths) (cause : FirstCause) → eq_lengths l s.lengths ≡ true → s.poison ≡ Poisoned.Never
-      → step s l (Call.ReportPoison cause) ≡ (with_poison s (Poisoned.First cause), Reply.Ok)
-  pub reports_later : (s : State) (l : Lengths) (cause first : FirstCause) → eq_lengths l s.lengths ≡ true → s.poison ≡ Poisoned.First first
+  pub reports : (s : State) (l : Lengths) (cause : FirstCause) → eq_lengths l s.lengths ≡ true → s.poison ≡ StdOption.None
+      → step s l (Call.ReportPoison cause) ≡ (with_poison s (StdOption.Some cause), Reply.Ok)
+  pub reports_later : (s : State) (l : Lengths) (cause first : FirstCause) → eq_lengths l s.lengths ≡ true → s.poison ≡ StdOption.Some first
       → step s l (Call.ReportPoison cause) ≡ (s, Reply.Ok)
   -- "whether a write still awaits a piece"
   pub writes : (s : State) (l : Lengths) (r : ℕ) (a b : Position) (sp : Split) → eq_lengths l s.lengths ≡ true

@@ -4,9 +4,11 @@ use Rattle.std.specs.Prelude.{Bool, true, false, not, ◌&&◌, List, [], ◌∷
 use Rattle.layout.specs.Block.{on_block}
 use Rattle.regionmap.specs.declared.Position.{Position}
 use Rattle.regionmap.specs.Words.{position_of}
-use Rattle.domain.specs.declared.Poisoned.{Poisoned}
+use Rattle.std.specs.declared.option.Option.{Option}
+use Rattle.domain.specs.declared.FirstCause.{FirstCause}
 use Rattle.completion.specs.declared.{Context.Context, Refusal.Refusal}
-use Rattle.model.specs.declared.{Counts.Counts, Gate.Gate, Request.Request, Asked.Asked}
+use Rattle.model.specs.declared.{Counts.Counts, Gate.Gate, Request.Request}
+use Rattle.std.specs.declared.result.Result.{Result}
 use Rattle.model.specs.State.{Region, no_region, Owner, Owner.host, Owner.table, Owner.lost, State}
 
 -- a request's whole length, and where its range ends
@@ -20,16 +22,20 @@ end_at q = q.offset.0 + q.length
 abbrev pub byte_at : ℕ → ℕ → ℕ
 byte_at start i = start + i
 
+-- how a question, or several in their order, are answered: yes to all, or the first no
+abbrev pub Asked : Type 0
+Asked = Result (Unit {0}) Refusal
+
 -- a question: yes, or the refusal
 unfoldable pub ask : Bool → Refusal → Asked
-ask true f = Asked.Yes
-ask false f = Asked.No f
+ask true f = Result.Ok tt
+ask false f = Result.Err f
 
 -- the first no of a list, or yes
 unfoldable pub first_no : List Asked → Asked
-first_no [] = Asked.Yes
-first_no (Asked.Yes ∷ more) = first_no more
-first_no (Asked.No f ∷ more) = Asked.No f
+first_no [] = Result.Ok tt
+first_no (Result.Ok _ ∷ more) = first_no more
+first_no (Result.Err f ∷ more) = Result.Err f
 
 -- "Context is the region's id."
 abbrev pub id_of : Region → Context
@@ -69,18 +75,18 @@ lifetime_left lifetime counts c = ask (ltb counts.submissions lifetime) (Refusal
 
 -- 6. "Is the region's gate open? No: recycled 4 StaleGeneration, released 5 NotReady."
 unfoldable pub gate_open : Gate → Context → Asked
-gate_open Gate.Open c = Asked.Yes
-gate_open Gate.Recycled c = Asked.No (Refusal.StaleGeneration c)
-gate_open Gate.Released c = Asked.No (Refusal.NotReady c)
+gate_open Gate.Open c = Result.Ok tt
+gate_open Gate.Recycled c = Result.Err (Refusal.StaleGeneration c)
+gate_open Gate.Released c = Result.Err (Refusal.NotReady c)
 
 -- 7. "May the store be written? No: 6 ReadOnly, no context."
 unfoldable pub store_writable : Bool → Asked
 store_writable read_only = ask (not read_only) (Refusal.ReadOnly Context.None)
 
 -- 8. "Is the store unpoisoned? No: 7 Poisoned, with the first cause."
-unfoldable pub unpoisoned : Poisoned → Asked
-unpoisoned Poisoned.Never = Asked.Yes
-unpoisoned (Poisoned.First cause) = Asked.No (Refusal.Poisoned cause)
+unfoldable pub unpoisoned : Option FirstCause → Asked
+unpoisoned Option.None = Result.Ok tt
+unpoisoned (Option.Some cause) = Result.Err (Refusal.Poisoned cause)
 
 -- 9. "May the region be written? No: 6."
 unfoldable pub region_writable : Bool → Context → Asked

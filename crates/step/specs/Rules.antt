@@ -7,10 +7,13 @@ use Rattle.regionmap.specs.declared.{FoundPiece.FoundPiece, Position.Position}
 use Rattle.regionmap.specs.Map.{Map, place, piece_size}
 use Rattle.regionmap.specs.Words.{offset_of}
 use Rattle.iobuf.specs.Turn.{turned}
-use Rattle.domain.specs.declared.{Op.Op, OsError.OsError, FirstCause.FirstCause, Poisoned.Poisoned}
+use Rattle.domain.specs.declared.{Op.Op, FirstCause.FirstCause}
+use Rattle.std.specs.declared.option.Option.{Option as StdOption}
 use Rattle.domain.specs.Domain.{need_after}
 use Rattle.platform.specs.declared.{Answer.Answer, Flushed.Flushed}
-use Rattle.completion.specs.declared.{WriteTicket.WriteTicket, Range.Range, Outcome.Outcome, Buffer.Buffer, Refusal.Refusal}
+use Rattle.completion.specs.declared.{WriteTicket.WriteTicket, Range.Range, Outcome.Outcome, Refusal.Refusal}
+use Rattle.completion.specs.Buffers.{Buffer}
+use Rattle.std.specs.declared.option.Option.TheVariants.{Some as Back, None as Lost}
 use Rattle.model.specs.declared.{Opening.Opening, Kind.Kind, Split.Split, Awaits.Awaits, Row.Row}
 use Rattle.model.specs.Opening.{Plan}
 use Rattle.model.specs.State.{receipt_made}
@@ -82,19 +85,19 @@ pub data Fate : Type 0 where
   -- it is complete
   ends : End → Fate
   -- its first piece is refused, with an OS error or none: its buffer and the bytes there
-  rejected : OsError → Buffer → List ℕ → Fate
+  rejected : StdOption ℕ → Buffer → List ℕ → Fate
 
 -- the buffer "if it came back", at a length
 unfoldable pub buffer_as : Bool → ℕ → ℕ → Buffer
-buffer_as true b length = Buffer.Back b length
-buffer_as false b length = Buffer.Lost
+buffer_as true b length = Back (record { buffer = b; len = length })
+buffer_as false b length = Lost
 
 -- the OS error of an answer, "if there was one"
-unfoldable pub error_of : Answer → OsError
-error_of (Answer.Count n) = OsError.None
-error_of (Answer.Error e media) = OsError.Raw e
-error_of Answer.Refused = OsError.None
-error_of (Answer.RefusedWith e media) = OsError.Raw e
+unfoldable pub error_of : Answer → StdOption ℕ
+error_of (Answer.Count n) = StdOption.None
+error_of (Answer.Error e media) = StdOption.Some e
+error_of Answer.Refused = StdOption.None
+error_of (Answer.RefusedWith e media) = StdOption.Some e
 
 -- ---- the end of a piece after which none is issued: the last, or an earlier one that was short, lost, refused or failed
 
@@ -147,12 +150,12 @@ ticket_of o g k flushes =
     }
 
 -- "Durable without either ends Poisoned if the store is poisoned, else with a receipt of need 2^64 − 1."
-unfoldable pub unflushed : Opening → Poisoned → WriteTicket → Outcome
-unflushed o Poisoned.Never t = Outcome.Receipt t (receipt_made o t (2 ^ 64 - 1))
-unflushed o (Poisoned.First cause) t = Outcome.Poisoned cause
+unfoldable pub unflushed : Opening → StdOption FirstCause → WriteTicket → Outcome
+unflushed o StdOption.None t = Outcome.Receipt t (receipt_made o t (2 ^ 64 - 1))
+unflushed o (StdOption.Some cause) t = Outcome.Poisoned cause
 
 -- "Plain ends there. Durable, with the flush policy or a forced region, keeps the row"
-unfoldable pub written_as : Opening → Bool → Poisoned → Bool → WriteTicket → Buffer → List ℕ → Fate
+unfoldable pub written_as : Opening → Bool → StdOption FirstCause → Bool → WriteTicket → Buffer → List ℕ → Fate
 written_as o forced first durable t b bytes =
     pick durable
     (pick (o.flush || forced) (awaits (Awaits.Flush t) bytes) (ends (record {
@@ -164,7 +167,7 @@ written_as o forced first durable t b bytes =
     (ends (record { outcome = Outcome.Written t; buffer = b; bytes = bytes; cause = none }))
 
 -- the end of such a piece, by the operation's kind
-unfoldable pub last_piece : Opening → Plan → Bool → Poisoned → Row → Kind → Split → List ℕ → Answer → Bool → ℕ → Fate
+unfoldable pub last_piece : Opening → Plan → Bool → StdOption FirstCause → Row → Kind → Split → List ℕ → Answer → Bool → ℕ → Fate
 last_piece o g forced first r (Kind.Read a b) s bytes answer back flushes =
     ends
     (record {
@@ -218,7 +221,7 @@ unfoldable pub split_after : ℕ → Split → Split
 split_after piece s = record { total = s.total; done = s.done + piece }
 
 -- the answer of a piece of some length: "the operation's bytes at the front of the buffer turn left by the piece, and the next piece is the reply"
-unfoldable pub piece_answered : Opening → Plan → Bool → Poisoned → Row → Kind → Split → ℕ → List ℕ → Answer → Bool → ℕ → Fate
+unfoldable pub piece_answered : Opening → Plan → Bool → StdOption FirstCause → Row → Kind → Split → ℕ → List ℕ → Answer → Bool → ℕ → Fate
 piece_answered o g forced first r k s piece bytes answer back flushes =
     pick (above_piece piece answer) (away Refusal.AbovePiece)
     (pick (first_refused s answer) (rejected (error_of answer) (buffer_as back r.buffer s.total) bytes)
@@ -236,12 +239,12 @@ flush_outcome o t (Flushed.Poisoned cause) = Outcome.Poisoned cause
 -- "A flush failure poisons nothing here"; the buffer, which came back, has its whole length
 unfoldable pub flush_ends : Opening → Row → WriteTicket → List ℕ → Flushed → Fate
 flush_ends o r t bytes result =
-    ends (record { outcome = flush_outcome o t result; buffer = Buffer.Back r.buffer (t.end.0 - t.start.0); bytes = bytes; cause = none })
+    ends (record { outcome = flush_outcome o t result; buffer = Back (record { buffer = r.buffer; len = (t.end.0 - t.start.0) }); bytes = bytes; cause = none })
 
 -- ---- the rules
 
 -- "Does the row await a piece (for a flush result: a flush)? No: 15."
-unfoldable pub answer_rules : Opening → Plan → Bool → Poisoned → Row → List ℕ → Answer → Bool → ℕ → Awaits → Fate
+unfoldable pub answer_rules : Opening → Plan → Bool → StdOption FirstCause → Row → List ℕ → Answer → Bool → ℕ → Awaits → Fate
 answer_rules o g forced first r bytes answer back flushes Awaits.Nothing = away Refusal.NotAwaited
 answer_rules o g forced first r bytes answer back flushes (Awaits.Piece k s) =
     piece_answered o g forced first r k s (piece_length g k s) bytes answer back flushes
@@ -254,6 +257,6 @@ flush_rules o r bytes result (Awaits.Flush t) = flush_ends o r t bytes result
 
 -- what becomes of the operation in a row: of the opening's settings, its region as the opening was given it, the forced mark last set, the first
 -- cause so far, and the bytes of its buffer as the input arrives
-unfoldable pub rules : Opening → Plan → Bool → Poisoned → Row → List ℕ → Input → Fate
+unfoldable pub rules : Opening → Plan → Bool → StdOption FirstCause → Row → List ℕ → Input → Fate
 rules o g forced first r bytes (answered answer back flushes) = answer_rules o g forced first r bytes answer back flushes r.awaits
 rules o g forced first r bytes (flushed result) = flush_rules o r bytes result r.awaits

@@ -3,7 +3,9 @@ use Rattle.std.specs.Prelude.{◌≡◌, List, [], ◌∷◌, ℕ, ◌+◌, ◌*
 use Rattle.layout.specs.Pick.{pick}
 use Rattle.regionmap.specs.Map.{place}
 use Rattle.regionmap.specs.Laws.{Lawful}
-use Rattle.completion.specs.declared.{Buffer.Buffer, Completion.Completion}
+use Rattle.completion.specs.declared.Completion.{Completion}
+use Rattle.completion.specs.Buffers.{Buffer}
+use Rattle.std.specs.declared.option.Option.TheVariants.{Some as Back, None as Lost}
 use Rattle.model.specs.declared.{Opening.Opening, Awaits.Awaits, Row.Row}
 use Rattle.model.specs.declared.Kind.TheVariants as Kind
 use Rattle.model.specs.State.{Region, Owner, Owner.host, Owner.table, Owner.lost, State, awaiting, live_rows}
@@ -25,8 +27,8 @@ rows_hold b (r ∷ rs) = row_holds b r + rows_hold b rs
 
 -- how many completions hold it
 unfoldable pub holds : ℕ → Buffer → ℕ
-holds b (Buffer.Back k n) = pick (eqb k b) 1 0
-holds b Buffer.Lost = 0
+holds b (Back h) = pick (eqb h.buffer b) 1 0
+holds b Lost = 0
 
 unfoldable pub ready_hold : ℕ → List Completion → ℕ
 ready_hold b [] = 0

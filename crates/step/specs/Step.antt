@@ -5,17 +5,21 @@ use Rattle.layout.specs.Pick.{pick}
 use Rattle.regionmap.specs.declared.Position.{Position}
 use Rattle.regionmap.specs.Words.{position_of}
 use Rattle.iobuf.specs.Turn.{stretch, with_stretch}
-use Rattle.domain.specs.declared.{OsError.OsError, FirstCause.FirstCause, Poisoned.Poisoned}
+use Rattle.domain.specs.declared.FirstCause.{FirstCause}
+use Rattle.std.specs.declared.option.Option.{Option as StdOption}
 use Rattle.domain.specs.Domain.{first_kept}
 use Rattle.completion.specs.declared.Context.TheVariants as Context
-use Rattle.completion.specs.declared.Refusal.TheVariants as Refusal
-use Rattle.completion.specs.declared.{Outcome.Outcome, Buffer.Buffer, Completion.Completion, Reply.Reply}
+use Rattle.completion.specs.declared.Refusal.{Refusal}
+use Rattle.completion.specs.declared.{Outcome.Outcome, Completion.Completion, Reply.Reply}
+use Rattle.completion.specs.Buffers.{Buffer}
+use Rattle.std.specs.declared.option.Option.TheVariants.{Some as Back, None as Lost}
 use Rattle.model.specs.declared.{Lengths.Lengths, Counts.Counts, Kind.Kind, Split.Split, Gate.Gate, Awaits.Awaits, Row.Row, Request.Request}
-use Rattle.model.specs.declared.{Call.Call, Lookup.Lookup, Asked.Asked, Verdict.Verdict}
+use Rattle.model.specs.declared.{Call.Call, Lookup.Lookup, Accepted.Accepted}
+use Rattle.std.specs.declared.result.Result.{Result}
 use Rattle.model.specs.State.{Region, Owner, Owner.host, Owner.table, Owner.lost, State, regions_as, poison_as, counts_as, rows_as, free_as, ready_as}
 use Rattle.model.specs.State.{owners_as, pool_as, freed, live_rows}
 use Rattle.model.specs.Opening.{Plan}
-use Rattle.step.specs.Questions.{region_at, first_no, write_questions, read_questions, end_at, whole_of}
+use Rattle.step.specs.Questions.{region_at, first_no, write_questions, read_questions, end_at, whole_of, Asked}
 use Rattle.step.specs.Rules.{first_of, range_of, op_of, piece_of, piece_length, Input, Input.answered, Input.flushed, End, Fate, Fate.away}
 use Rattle.step.specs.Rules.{Fate.awaits, Fate.ends, Fate.rejected, rules}
 
@@ -46,10 +50,15 @@ top_of free = get_or free 0 0
 unfoldable pub row_at : State → ℕ → Row
 row_at s r = get_or s.rows r (freed 0)
 
+-- what a submission comes to: turned away, or accepted
+abbrev pub Verdict : Type 0
+Verdict = Result Accepted Refusal
+
 -- the questions' answer and, if it is yes, what is accepted: "the row on top of the free stack is taken", "The reply is the first piece"
 unfoldable pub verdict_of : Asked → State → Kind → Request → Verdict
-verdict_of (Asked.No f) s k q = Verdict.No f
-verdict_of Asked.Yes s k q = Verdict.Accept (top_of s.free) k (piece_of (region_at s q.handle).map q.offset.0 (begun (whole_of q)))
+verdict_of (Result.Err f) s k q = Result.Err f
+verdict_of (Result.Ok _) s k q =
+    Result.Ok (record { row = top_of s.free; kind = k; piece = piece_of (region_at s q.handle).map q.offset.0 (begun (whole_of q)) })
 
 unfoldable pub write_verdict : State → Request → Verdict
 write_verdict s q = verdict_of (first_no (write_questions s (region_at s q.handle) q)) s (Kind.Page (start_of q) (end_of q)) q
@@ -88,8 +97,9 @@ accepted s r k q =
 
 -- the state and the reply that a verdict leads to
 unfoldable pub submitted : State → Request → Verdict → State × Reply
-submitted s q (Verdict.No f) = (s, Reply.No f)
-submitted s q (Verdict.Accept r k p) = (accepted s r k q, Reply.Piece (queue_tag r (row_at s r).generation) p.offset p.count q.buffer)
+submitted s q (Result.Err f) = (s, Reply.No f)
+submitted s q (Result.Ok a) =
+    (accepted s a.row a.kind q, Reply.Piece (queue_tag a.row (row_at s a.row).generation) a.piece.offset a.piece.count q.buffer)
 
 -- ---- an answer or a flush result
 
@@ -129,11 +139,11 @@ one_less c more = record { live = c.live - 1; ready = c.ready + more; submission
 -- who has the buffer of an operation that completed ("taking one gives its buffer back") or was rejected ("The host gets .. its buffer, if it came
 -- back")
 unfoldable pub kept_by : Owner → Buffer → Owner
-kept_by who (Buffer.Back b length) = who
-kept_by who Buffer.Lost = lost
+kept_by who (Back h) = who
+kept_by who Lost = lost
 
 -- "and the store is poisoned with the cause .., the first cause kept"
-unfoldable pub poison_with : Poisoned → Option FirstCause → Poisoned
+unfoldable pub poison_with : StdOption FirstCause → Option FirstCause → StdOption FirstCause
 poison_with p none = p
 poison_with p (some cause) = first_kept p cause
 
@@ -172,7 +182,7 @@ abbrev pub completed : Row → End → Completion
 completed r e = completion_of r e.outcome e.buffer
 
 -- "The host gets Io or QueueFull and the range, and its buffer". Only an operation that awaits a piece is rejected (proofs/Fates.antt).
-unfoldable pub rejection : Plan → Awaits → OsError → Buffer → Reply
+unfoldable pub rejection : Plan → Awaits → StdOption ℕ → Buffer → Reply
 rejection g Awaits.Nothing e b = Reply.No Refusal.NotAwaited
 rejection g (Awaits.Piece k s) e b = Reply.Rejected (range_of g k) (op_of k) e b
 rejection g (Awaits.Flush t) e b = Reply.No Refusal.NotAwaited
@@ -200,8 +210,8 @@ under_tag s t i =
 
 -- "taking one gives its buffer back, if it came back"
 unfoldable pub given_back : List Owner → Buffer → List Owner
-given_back owners (Buffer.Back b length) = set owners b host
-given_back owners Buffer.Lost = owners
+given_back owners (Back h) = set owners h.buffer host
+given_back owners Lost = owners
 
 -- one completion less
 abbrev pub one_taken : Counts → Counts
@@ -215,7 +225,7 @@ taken s (c ∷ more) = (counts_as (one_taken s.counts) (ready_as more (owners_as
 unfoldable pub with_regions : State → List Region → State
 with_regions s gs = regions_as gs s
 
-unfoldable pub with_poison : State → Poisoned → State
+unfoldable pub with_poison : State → StdOption FirstCause → State
 with_poison s p = poison_as p s
 
 -- "set a region's gate, read-only or forced mark (unknown handle: 1)"

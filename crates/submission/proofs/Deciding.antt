@@ -10,15 +10,12 @@ use Rattle.model.specs.declared.Counts.{Counts}
 use Rattle.model.specs.declared.Row.{Row}
 use Rattle.model.specs.declared.Request.{Request}
 use Rattle.model.specs.declared.Kind.{Kind}
-use Rattle.model.specs.declared.Asked.{Asked}
-use Rattle.model.specs.declared.Asked.TheVariants.{Yes, No}
-use Rattle.model.specs.declared.Verdict.{Verdict}
-use Rattle.model.specs.declared.Verdict.TheVariants.{Accept}
+use Rattle.std.specs.declared.result.Result.TheVariants.{Ok, Err}
 use Rattle.model.specs.State.{State, Region}
 use Rattle.model.specs.Memory.{settings_in, lengths_of, same_lengths, state_in}
-use Rattle.step.specs.Questions.{region_at, first_no}
+use Rattle.step.specs.Questions.{region_at, first_no, Asked}
 use Rattle.step.specs.Rules.{piece_of}
-use Rattle.step.specs.Step.{begun, end_of, top_of, verdict_of}
+use Rattle.step.specs.Step.{begun, end_of, top_of, verdict_of, Verdict}
 use Rattle.step.specs.Sound.{Sound}
 use Rattle.step.proofs.Answers.{Passed}
 use Rattle.submission.specs.Asks.{Reads, Questions}
@@ -73,16 +70,16 @@ module _ (c : Counts) (rows : List Row) (store free ready owners pool : List ℕ
         ∙ (λ j. record { offset = offset_of (place m (here j)); count = piece_size m (here j) (all j) })
 
   -- the code's verdict of an answer that is the questions' is the definition's, where a yes means that they all passed
-  pub decided : (q : Request) (asked : Asked) → (asked ≡ Yes → Passed s q) → (wrapped kind : Kind) → (end_wrapped q ≡ end_of q → wrapped ≡ kind) → (v : Verdict) → DecidedBy asked c.live store free wrapped q v → v ≡ verdict_of asked s kind q
+  pub decided : (q : Request) (asked : Asked) → (asked ≡ Ok tt → Passed s q) → (wrapped kind : Kind) → (end_wrapped q ≡ end_of q → wrapped ≡ kind) → (v : Verdict) → DecidedBy asked c.live store free wrapped q v → v ≡ verdict_of asked s kind q
   unfolding verdict_with verdict_of
-  decided q (No f) passed wrapped kind k v d = d.verdict
-  decided q Yes passed wrapped kind k v d =
+  decided q (Err f) passed wrapped kind k v d = d.verdict
+  decided q (Ok _) passed wrapped kind k v d =
       let p = passed refl in
-      d.verdict ∙ λ j. Accept (top_is q p j) (k (end_is q p) j) (piece_is q p d.first (d.found refl) j)
+      d.verdict ∙ λ j. Ok (record { row = top_is q p j; kind = k (end_is q p) j; piece = piece_is q p d.first (d.found refl) j })
 
 -- ---- a call's verdict, of its own list and kind
 
-module _ (list : State → Region → Request → List Asked) (passes : (s : State) (q : Request) → first_no (list s (region_at s q.handle) q) ≡ Yes → Passed s q) (shape : Request → Position → Kind)
+module _ (list : State → Region → Request → List Asked) (passes : (s : State) (q : Request) → first_no (list s (region_at s q.handle) q) ≡ Ok tt → Passed s q) (shape : Request → Position → Kind)
     (c : Counts) (store free owners : List ℕ) (q : Request)
     (asked : Asked) (answers : Questions list c store owners q asked) (end : Position) (ends : end ≡ end_wrapped q) (v : Verdict) (d : DecidedBy asked c.live store free (shape q end) q v) where
   pub decides : Decides (λ s q. verdict_of (first_no (list s (region_at s q.handle) q)) s (shape q (end_of q)) q) c store free owners q v

@@ -1,12 +1,13 @@
 -- The answer to a list of questions is promised for every state that is read off the words.
 use Rattle.std.specs.Prelude.{◌≡◌, ℕ, ◌<◌, ◌≤◌, Bool, List, [], ◌∷◌, map, length, take}
-use Rattle.domain.specs.declared.Poisoned.{Poisoned}
+use Rattle.std.specs.declared.option.Option.{Option}
+use Rattle.domain.specs.declared.FirstCause.{FirstCause}
 use Rattle.completion.specs.declared.Context.{Context}
-use Rattle.model.specs.declared.{Opening.Opening, Counts.Counts, Request.Request, Asked.Asked}
+use Rattle.model.specs.declared.{Opening.Opening, Counts.Counts, Request.Request}
 use Rattle.model.specs.State.{State, Region}
 use Rattle.model.specs.Memory.{settings_in, poison_in, owner_in}
 use Rattle.model.specs.Opening.{HEAD}
-use Rattle.step.specs.Questions.{range_from, region_at, first_no, buffer_in_pool, host_holds_buffer, room_in_table, lifetime_left, gate_open}
+use Rattle.step.specs.Questions.{range_from, region_at, first_no, buffer_in_pool, host_holds_buffer, room_in_table, lifetime_left, gate_open, Asked}
 use Rattle.step.specs.Questions.{store_writable, unpoisoned, region_writable, volume_and_region_match, generation_matches}
 use Rattle.step.specs.Questions.{length_above0, aligned, within_data}
 use Rattle.memory.specs.declared.liveregion.LiveRegion.{LiveRegion}
@@ -27,7 +28,7 @@ abbrev pub Questions : (State → Region → Request → List Asked) → Counts 
 Questions list c store owners q r = (s : State) → Reads s c store owners → r ≡ first_no (list s (region_at s q.handle) q)
 
 -- the questions of a write behind the first, of what was read: 2 to 14
-unfoldable pub write_list : Opening → Counts → LiveRegion → Poisoned → Bool → Request → List Asked
+unfoldable pub write_list : Opening → Counts → LiveRegion → Option FirstCause → Bool → Request → List Asked
 write_list o n g p held q =
     let c = Context.Region g.id in
     buffer_in_pool o.buffers o.capacity c q

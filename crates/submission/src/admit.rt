@@ -2,20 +2,17 @@
 ghost use Rattle.std.specs.Prelude.{◌≡◌, ◌&&◌, [], ◌∷◌, map, take, nat_le, nat_lt, slice_index_or};
 ghost use Rattle.model.specs.State.{Owner.lost};
 ghost use Rattle.model.specs.Memory.{owner_in};
-ghost use Rattle.step.specs.Questions.{is_host, ask, first_no, host_holds_buffer, room_in_table, lifetime_left, gate_open};
+ghost use Rattle.step.specs.Questions.{is_host, ask as asks, first_no, host_holds_buffer, room_in_table, lifetime_left, gate_open};
 
 use completion::{Context, Refusal};
-use model::{Asked, Counts, Gate, Request};
+use model::{Counts, Gate, Request};
+use region::ready::ask;
 
 // Question 2: is the buffer in the pool, its length within capacity (BufPool::owns)?
 pub fn in_pool(buffers: u64, capacity: u64, q: Request) -> bool
     ensures { result ≡ (nat_lt q.buffer buffers && nat_le q.length capacity) }
 {
-    if q.buffer < buffers {
-        q.length <= capacity
-    } else {
-        false
-    }
+    q.buffer < buffers && q.length <= capacity
 }
 
 // Question 3: does the host hold the buffer?
@@ -23,22 +20,17 @@ pub fn held(owners: &[u64], buffers: u64, buffer: u64) -> bool
     ensures { result ≡ is_host (slice_index_or (map owner_in (take buffers owners.now)) buffer lost) }
 {
     let at = buffer as usize;
-    if buffer < buffers {
-        if at < owners.len() {
-            return owners[at] == 0;
-        }
-    }
-    false
+    buffer < buffers && at < owners.len() && owners[at] == 0
 }
 
 // Question 6: is the region's gate open (OwnedPass::enter, retired_error)?
-fn enter(gate: Gate, c: Context) -> Asked
+fn enter(gate: Gate, c: Context) -> Result<(), Refusal>
     ensures { result ≡ gate_open gate c }
 {
     match gate {
-        Gate::Open => Asked::Yes,
-        Gate::Recycled => Asked::No(Refusal::StaleGeneration(c)),
-        Gate::Released => Asked::No(Refusal::NotReady(c)),
+        Gate::Open => Ok(()),
+        Gate::Recycled => Err(Refusal::StaleGeneration(c)),
+        Gate::Released => Err(Refusal::NotReady(c)),
     }
 }
 
@@ -51,21 +43,13 @@ pub fn admit(
     held: bool,
     gate: Gate,
     c: Context,
-) -> Asked
-    ensures { result ≡ first_no (ask pooled (Refusal.ForeignBuffer c) ∷ host_holds_buffer held c ∷ room_in_table depth counts c
+) -> Result<(), Refusal>
+    ensures { result ≡ first_no (asks pooled (Refusal.ForeignBuffer c) ∷ host_holds_buffer held c ∷ room_in_table depth counts c
         ∷ lifetime_left lifetime counts c ∷ gate_open gate c ∷ []) }
 {
-    if !pooled {
-        return Asked::No(Refusal::ForeignBuffer(c));
-    }
-    if !held {
-        return Asked::No(Refusal::NotHeld(c));
-    }
-    if optable::start::full(counts, depth) {
-        return Asked::No(Refusal::QueueFull(c));
-    }
-    if lifetime <= counts.submissions {
-        return Asked::No(Refusal::LifetimeSpent(c));
-    }
+    ask(pooled, Refusal::ForeignBuffer(c))?;
+    ask(held, Refusal::NotHeld(c))?;
+    ask(!optable::start::full(counts, depth), Refusal::QueueFull(c))?;
+    ask(counts.submissions < lifetime, Refusal::LifetimeSpent(c))?;
     enter(gate, c)
 }

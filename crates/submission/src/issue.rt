@@ -3,8 +3,8 @@
 ghost use Rattle.std.specs.Prelude.{◌≡◌, slice_set};
 ghost use Rattle.submission.specs.Touched.{issued, owners_after};
 
-use completion::Reply;
-use model::{Request, Row, Verdict};
+use completion::{Refusal, Reply};
+use model::{Accepted, Request, Row};
 use optable::Frees;
 use optable::touched::Touched;
 
@@ -19,26 +19,27 @@ fn lend(owners: &mut [u64], buffer: u64)
 }
 
 // What a verdict leaves of the row on top, of the owners, and its reply (Submitter::issue).
-pub fn issue(v: Verdict, row: Row, seq: u64, owners: &mut [u64], q: Request) -> Touched
+pub fn issue(
+    v: Result<Accepted, Refusal>,
+    row: Row,
+    seq: u64,
+    owners: &mut [u64],
+    q: Request,
+) -> Touched
     ensures { (result ≡ issued v row seq q) × (owners.new ≡ owners_after v q owners.old) }
 {
     match v {
-        Verdict::No(refusal) => optable::touched::away(row, refusal),
-        Verdict::Accept {
-            row: at,
-            kind,
-            piece,
-        } => {
+        Err(refusal) => optable::touched::away(row, refusal),
+        Ok(accepted) => {
             lend(owners, q.buffer);
-            let offset = piece.offset;
             Touched {
-                row: optable::start::start(row.generation, seq, kind, q),
+                row: optable::start::start(row.generation, seq, accepted.kind, q),
                 accepts: true,
                 frees: Frees::Nothing,
                 reply: Reply::Piece {
-                    qtag: optable::start::queue_tag(at, row.generation),
-                    offset,
-                    count: piece.count,
+                    qtag: optable::start::queue_tag(accepted.row, row.generation),
+                    offset: accepted.piece.offset,
+                    count: accepted.piece.count,
                     buffer: q.buffer,
                 },
             }

@@ -14,54 +14,67 @@ ghost use Rattle.std.specs.Prelude.{◌≡◌};
 ghost use Rattle.step.specs.Step.{write_verdict, read_verdict};
 ghost use Rattle.submission.specs.Decided.{DecidedBy, Decides, end_wrapped};
 
-use model::{Asked, Counts, Kind, Request, Verdict};
+use completion::Refusal;
+use model::{Accepted, Counts, Kind, Request};
 use regionmap::Position;
 
 // Where the range of a request ends; of an accepted one no sum wraps.
 fn end_of(q: Request) -> Position
     ensures { result ≡ end_wrapped q }
 {
-    Position(std::num::wrapping_add_u64(q.offset.0, q.length))
+    Position(q.offset.0.wrapping_add(q.length))
 }
 
 // The questions' answer and, where it is yes, what is accepted: the row on top of the free stack, and the first piece.
-fn decide(asked: Asked, live: u64, store: &[u64], free: &[u64], kind: Kind, q: Request) -> Verdict
+fn decide(
+    asked: Result<(), Refusal>,
+    live: u64,
+    store: &[u64],
+    free: &[u64],
+    kind: Kind,
+    q: Request,
+) -> Result<Accepted, Refusal>
     ensures { DecidedBy asked live store.now free.now kind q result }
 {
-    match asked {
-        Asked::No(refusal) => Verdict::No(refusal),
-        Asked::Yes => {
-            let start = q.offset;
-            Verdict::Accept {
-                row: optable::top(free, live),
-                kind,
-                piece: memory::piece::first_piece(store, q.handle, start, q.length),
-            }
-        }
-    }
+    asked?;
+    Ok(Accepted {
+        row: optable::top(free, live),
+        kind,
+        piece: memory::piece::first_piece(store, q.handle, q.offset, q.length),
+    })
 }
 
 // Whether a write is accepted, and as what (Submitter::write).
-pub fn write(counts: Counts, store: &[u64], free: &[u64], owners: &[u64], q: Request) -> Verdict
+pub fn write(
+    counts: Counts,
+    store: &[u64],
+    free: &[u64],
+    owners: &[u64],
+    q: Request,
+) -> Result<Accepted, Refusal>
     ensures { Decides write_verdict counts store.now free.now owners.now q result }
 {
     let asked = crate::questions::ask_write(counts, store, owners, q);
-    let start = q.offset;
     let kind = Kind::Page {
-        start,
+        start: q.offset,
         end: end_of(q),
     };
     decide(asked, counts.live, store, free, kind, q)
 }
 
 // Whether a read is accepted, and as what (Submitter::read_page and read).
-pub fn read_page(counts: Counts, store: &[u64], free: &[u64], owners: &[u64], q: Request) -> Verdict
+pub fn read_page(
+    counts: Counts,
+    store: &[u64],
+    free: &[u64],
+    owners: &[u64],
+    q: Request,
+) -> Result<Accepted, Refusal>
     ensures { Decides read_verdict counts store.now free.now owners.now q result }
 {
     let asked = crate::questions::ask_read(counts, store, owners, q);
-    let start = q.offset;
     let kind = Kind::Read {
-        start,
+        start: q.offset,
         end: end_of(q),
     };
     decide(asked, counts.live, store, free, kind, q)

@@ -12,12 +12,12 @@ use Rattle.step.specs.Run.{Start, opened_by, after, run}
 use Rattle.optable.specs.Called.{lent_of}
 use Rattle.optable.specs.Held.{Holds, Turn, TurnsFrom, start_at}
 use Rattle.optable.proofs.Held.{held_laws}
-use Rattle.opening.specs.declared.Opened.TheVariants as Opened
+use Rattle.std.specs.declared.result.Result.{Result}
 use Rattle.opening.specs.Opened.{OpensTo}
 use Rattle.opening.proofs.Admitted.{admitted, counts_fresh, left_is}
 use Rattle.submitter.specs.Holding.{HeldFrom, HostHolds}
 
-module _ (o : Opening) (plan : List ℕ) (l : Lent) (c₀ : Counts) (rows : List Row) (store free ready owners : List ℕ) (z : OpensTo o plan l (Opened.Table c₀) rows store free ready owners) where
+module _ (o : Opening) (plan : List ℕ) (l : Lent) (c₀ : Counts) (rows : List Row) (store free ready owners : List ℕ) (z : OpensTo o plan l (Result.Ok c₀) rows store free ready owners) where
   long : length l.pool ≡ (lengths_of l).pool
   unfolding lengths_of
   long = refl

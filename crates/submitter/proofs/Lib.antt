@@ -1,2 +1,2 @@
--- What the proofs of the opening, of a call and of a lookup share, and then what those of host share.
+-- What is held of a host's table.
 pub mod Holding

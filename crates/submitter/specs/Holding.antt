@@ -1,4 +1,4 @@
--- A host in Rattle, which lends records: `open`, `call` and `lookup`, and `host`'s three, which have the same contracts (OpensTo, CallsTo, LooksTo).
+-- A host in Rattle, which lends records: `open`, `call` and `lookup`, whose contracts are OpensTo, CallsTo and LooksTo.
 -- What it holds is a table that calls have left. Proved in proofs/Holding.antt (host-holds).
 use Rattle.std.specs.Prelude.{◌≡◌, List, map, ℕ}
 use Rattle.model.specs.declared.{Opening.Opening, Counts.Counts, Row.Row}
@@ -6,7 +6,7 @@ use Rattle.model.specs.Memory.{Lent, lengths_of, state_in}
 use Rattle.step.specs.Run.{Start, opened_by}
 use Rattle.optable.specs.Called.{lent_of}
 use Rattle.optable.specs.Held.{Holds, Turn, TurnsFrom, counts_after, held_after, event_of, AsSteps, Begins}
-use Rattle.opening.specs.declared.Opened.TheVariants as Opened
+use Rattle.std.specs.declared.result.Result.{Result}
 use Rattle.opening.specs.Opened.{OpensTo}
 
 -- After an opening of what is lent in l, which left l₀ with the counts c₀, and a list of calls and lookups: the opened table was in l₀; from it each
@@ -21,6 +21,6 @@ pub record HeldFrom (o : Opening) (plan : List ℕ) (l : Lent) (c₀ : Counts) (
 -- from an opening that was admitted: its reply is a table
 unfoldable pub HostHolds : Type 0
 HostHolds = (o : Opening) (plan : List ℕ) (l : Lent) (c₀ : Counts) (rows : List Row) (store free ready owners : List ℕ)
-    → OpensTo o plan l (Opened.Table c₀) rows store free ready owners
+    → OpensTo o plan l (Result.Ok c₀) rows store free ready owners
     → (us : List Turn) → TurnsFrom c₀ (lent_of rows store free ready owners l.pool) us
     → HeldFrom o plan l c₀ (lent_of rows store free ready owners l.pool) us

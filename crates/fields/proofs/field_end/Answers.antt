@@ -1,23 +1,11 @@
-use mathlib.Core.Path.{ap}
-use native.Mathlib.Omega.{arith}
-use lib.ListN.{length}
-use Rattle.fields.proofs.Fields.{field_more, field_ends, field_past}
+use Rattle.std.proofs.Common.{◌≡◌, ◌-◌, arith, drop, length, length-drop, take, take_all}
+use Rattle.fields.proofs.Fields.{field_length, field_within}
 use Rattle.fields.proofs.field_end.Goals as goal
-
-pub returns-then-text-i-eq32 : goal.returns-then-text-i-eq32
-returns-then-text-i-eq32 c =
-    let text = c.args.text.now in
-    let i = c.loop-i.i in
-    omega (arith, ap length (field_ends text i (omega arith) c.if-text-i-eq32.true))
-
-pub loop-i-preserved : goal.loop-i-preserved
-loop-i-preserved c =
-    let text = c.args.text.now in
-    let i = c.loop-i.i in
-    omega (arith, field_more text i (omega arith) c.if-text-i-eq32.false)
 
 pub returns : goal.returns
 returns c =
     let text = c.args.text.now in
-    let i = c.loop-i.i in
-    omega (arith, ap length (field_past 0 text i (omega arith)))
+    let rest = drop c.args.from text in
+    let whole : take (length text - c.args.from) rest ≡ rest = take_all _ rest (omega (arith, length-drop c.args.from text)) in
+    let counted = rw whole at c.before_space.ensures in
+    (omega (arith, field_length rest, field_within rest, length-drop c.args.from text), omega (arith, field_length rest))

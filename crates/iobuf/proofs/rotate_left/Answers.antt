@@ -6,24 +6,18 @@ use lib.ListN.{length, take}
 use lib.Seq.{length-take-le}
 use Rattle.iobuf.proofs.Laws.{turned_none, turned_all, turned_part}
 use Rattle.iobuf.proofs.rotate_left.Goals as goal
-use Rattle.iobuf.proofs.rotate_left.Goals.{After-lesser-end}
+use Rattle.iobuf.proofs.rotate_left.Goals.{After-min-end}
 
 -- the part that is lent is as long as the lesser of n and the length
-cut : (c : After-lesser-end) → length (take c.lesser-end.result c.args.s.now) ≡ c.lesser-end.result
-cut c = length-take-le c.lesser-end.result c.args.s.now (omega arith)
+cut : (c : After-min-end) → length (take c.min-end.result c.args.s.now) ≡ c.min-end.result
+cut c = length-take-le c.min-end.result c.args.s.now (omega arith)
 
 pub returns-then-k-eq0 : goal.returns-then-k-eq0
 returns-then-k-eq0 c = sym (turned_none c.args.n c.args.k c.args.s.now c.if-k-eq0.true)
 
-pub slice_bounds-rotate-end-then-k-end : goal.slice_bounds-rotate-end-then-k-end
-slice_bounds-rotate-end-then-k-end c = sym (cut (goal.at.slice_bounds-rotate-end-then-k-end c).After-lesser-end)
-
-pub rotate-requires : goal.rotate-requires
-rotate-requires c = rw (cut (goal.at.rotate-requires c).After-lesser-end) (omega arith)
-
 pub returns-then-k-end : goal.returns-then-k-end
 returns-then-k-end c =
-    turned_part c.args.n c.args.k c.lesser-end.result c.args.s.now c.rotate.new.s c.lesser-end.ensures c.rotate.ensures
+    turned_part c.args.n c.args.k c.min-end.result c.args.s.now c.rotate.new.s c.min-end.ensures c.rotate.ensures
 
 pub returns-else-k-end : goal.returns-else-k-end
 returns-else-k-end c =

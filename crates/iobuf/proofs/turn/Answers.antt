@@ -33,16 +33,6 @@ pub returns-then-capacity-eq0 : goal.returns-then-capacity-eq0
 returns-then-capacity-eq0 c =
     sym (turned_empty c.args.capacity c.args.buffer c.args.n c.args.k c.args.pool.now c.if-capacity-eq0.true)
 
-pub overflow_mul-at : goal.overflow_mul-at
-overflow_mul-at c = let h = inside c in omega arith
-
-pub overflow_add-end : goal.overflow_add-end
-overflow_add-end c = let h = inside c in omega arith
-
--- LEFT ?slice-bounds-rotate-left-end
--- part-rotate-left-end : tie.Need-slice-bounds-rotate-left-end
--- part-rotate-left-end c = inside c
-
 pub returns-then-buffer-pool : goal.returns-then-buffer-pool
 returns-then-buffer-pool c =
     let found = (goal.at.returns-then-buffer-pool c).Then-buffer-pool in

@@ -1,18 +1,10 @@
 // A line whose bytes have all arrived, of whatever length: fields::reader keeps its first 4,096 bytes, and whether there are more.
 ghost use Rattle.std.specs.Prelude.{◌≡◌, List, ℕ, ◌≤◌, length, take};
 ghost use Rattle.fields.specs.Trace.{Kept};
-ghost use Rattle.parser.specs.Openings.{open_line_in, open_line_read, regions_after, plan_after};
+ghost use Rattle.parser.specs.Openings.{open_line_read, regions_after, plan_after};
 
 use crate::preamble::OpenLine;
 use fields::reader::{Front, Reader};
-
-// What the first bytes of a line say.
-fn front_line(line: &[u8], kept: usize) -> OpenLine
-    requires { kept ≤ length line.now }
-    ensures { result ≡ open_line_in (take kept line.now) }
-{
-    crate::preamble::open_line(&line[..kept])
-}
 
 // What the line says, once all its bytes are there.
 pub fn finish(r: Reader, line: &[u8; 4096]) -> OpenLine
@@ -21,7 +13,7 @@ pub fn finish(r: Reader, line: &[u8; 4096]) -> OpenLine
     match fields::reader::front_of(r, line) {
         Front::Comment => OpenLine::Comment,
         Front::Bad => OpenLine::Bad,
-        Front::Text(kept) => front_line(line, kept),
+        Front::Text(kept) => crate::preamble::open_line(&line[..kept]),
     }
 }
 
@@ -38,9 +30,8 @@ pub fn add_kept(r: Reader, line: &[u8; 4096], plan: &mut [u64; 560], count: u64)
     ensures { (bytes : List ℕ) → Kept r line.now bytes → length bytes ≤ 4096 → (result ≡ regions_after count) ×
         (plan.new ≡ plan_after bytes count plan.old) }
 {
-    let kept = r.kept;
-    if 4096 < kept {
+    if 4096 < r.kept {
         return count;
     }
-    front_region(line, kept, plan, count)
+    front_region(line, r.kept, plan, count)
 }

@@ -1,7 +1,8 @@
 -- `region::alignment` meets its contract: it asks the definition's two tests.
+use Rattle.std.proofs.Common.{rules}
 use Rattle.step.specs.Questions.{aligned}
 use Rattle.region.proofs.alignment.Goals as goal
 
 pub returns : goal.returns
 unfolding aligned
-returns c = rw (c.ask.ensures, c.both.ensures, c.on_block-length.ensures, c.on_block-offset.ensures)
+returns c = search rules

@@ -1,5 +1,5 @@
 -- `runner::run` meets its contract: the call is made, and its reply printed.
 use Rattle.runner.proofs.run.Goals as goal
 
-pub returns : goal.returns
-returns c = record { ran = record { reply = c.call_in-called.result.reply; called = c.call_in-called.ensures; prints = c.short_text.ensures.1 }; bounded = c.short_text.ensures.0 }
+pub returns-clause-ran : goal.returns-clause-ran
+returns-clause-ran c = record { reply = c.call-reply.result; called = c.call-reply.ensures.calls; prints = c.short_text.ensures.1 }

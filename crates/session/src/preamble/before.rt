@@ -4,8 +4,7 @@ ghost use Rattle.fields.specs.Trace.{Kept};
 ghost use Rattle.parser.specs.Openings.{open_line_read};
 ghost use Rattle.session.specs.Unopened.{Stood, at_stage, Tells, before_line};
 
-use crate::Stage;
-use crate::preamble::Follows;
+use crate::{Follows, Stage};
 use fields::reader::Reader;
 use parser::preamble::OpenLine;
 

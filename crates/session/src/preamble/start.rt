@@ -1,15 +1,16 @@
 // `start`
 ghost use Rattle.std.specs.Prelude.{◌≡◌, ◌≤◌, take};
 ghost use Rattle.model.specs.declared.Opening.{Opening as opening};
-ghost use Rattle.optable.specs.Called.{lent_of};
+ghost use Rattle.memory.specs.Words.{SameWords, lent_words};
 ghost use Rattle.session.specs.Start.{started_as};
-ghost use Rattle.session.specs.Unopened.{Stood, stood_at, Tells, limit_text, no_text13, start_line};
+ghost use Rattle.session.specs.Unopened.{Stood, Tells, limit_text, no_text13, start_line};
+ghost use Rattle.session.specs.Lent.{stood_in};
 
-use crate::preamble::Follows;
 use crate::start::Started;
-use crate::{Answered, Stage};
+use crate::{Follows, Host, Stage};
 use completion::{Refusal, Reply};
-use model::{Counts, Opening, Row};
+use memory::words::Words;
+use model::{Counts, Opening};
 
 // `no 13`
 pub fn say_no(out: &mut [u8; 4096]) -> usize
@@ -61,37 +62,20 @@ fn counts_after(started: Started, counts: Counts) -> Counts
 pub(crate) fn start_line(
     o: Opening,
     plan: &[u64; 560],
-    rows: [Row; 64],
-    counts: Counts,
-    flushes: u64,
-    store: &mut [u64],
-    free: &mut [u64],
-    ready: &mut [u64],
-    owners: &mut [u64],
+    host: &mut Host,
+    words: &mut Words,
     pool: &[u8],
     out: &mut [u8; 4096],
-) -> Answered
+) -> Follows
+    ensures same { SameWords words.old words.new }
     ensures tells { Tells
-        (start_line (started_as o plan.now
-        (lent_of rows store.old free.old ready.old owners.old pool.now)) o
-        (stood_at (Stage.Planned o) plan.now flushes counts
-        (lent_of rows store.old free.old ready.old owners.old pool.now)))
-        (stood_at result.stage plan.now result.flushes result.counts
-        (lent_of result.rows store.new free.new ready.new owners.new pool.now))
+        (start_line (started_as o plan.now (lent_words host.old.rows words.old pool.now)) o
+        (stood_in (Stage.Planned o) plan.now host.old words.old pool.now))
+        (stood_in result.stage plan.now host.new words.new pool.now)
         (take result.printed out.new) }
     ensures bounded { result.printed ≤ 4096 }
 {
-    let s = crate::start::start(o, plan, rows, store, free, ready, owners, pool);
-    let held = s.rows;
-    let started = s.started;
-    let f = started_line(started, o, pool, out);
-    let stage = f.stage;
-    let counted = counts_after(started, counts);
-    Answered {
-        stage,
-        rows: held,
-        counts: counted,
-        flushes,
-        printed: f.printed,
-    }
+    let started = crate::start::start(o, plan, &mut host.rows, words, pool);
+    host.counts = counts_after(started, host.counts);
+    started_line(started, o, pool, out)
 }

@@ -1,29 +1,21 @@
--- `submission::decide` meets its contract: each arm knows the questions' answer, and there the definition computes.
-use Rattle.std.proofs.Common.{◌≡◌, ℕ, get_or, sym, ap, ◌∙◌, subst}
-use Rattle.completion.specs.declared.Refusal.{Refusal}
-use Rattle.model.specs.declared.Asked.{Asked}
-use Rattle.model.specs.declared.Asked.TheVariants.{Yes, No}
-use Rattle.model.specs.declared.Verdict.TheVariants.{Accept}
+-- `submission::decide` meets its contract: a no is handed on, and of a yes the parts are what its callees ensure.
+use Rattle.std.proofs.lemmas.Result.{err_from_is_err_and}
 use Rattle.submission.specs.Decided.{verdict_with}
 use Rattle.submission.proofs.decide.Goals as goal
 
--- a no is no yes
-abbrev IsNo : Asked → Type 0
-IsNo Yes = ⊥
-IsNo (No f) = Unit {0}
-
-not_yes : {f : Refusal} → No f ≡ Yes → ⊥
-not_yes e = subst IsNo e tt
-
-pub returns-in-No : goal.returns-in-No
+pub returns-in_err-asked : goal.returns-in_err-asked
 unfolding verdict_with
-returns-in-No c =
-    let a = c.args in
-    let is-no = c.in-No.is in
-    record { first = record { offset = record { 0 = 0 }; count = 0 }; found = λ yes-too. absurd (not_yes (sym is-no ∙ yes-too)); verdict = sym (ap (λ (t : Asked). verdict_with t (get_or a.free.now a.live 0) a.kind _) is-no) }
+returns-in_err-asked c =
+    let p = err_from_is_err_and c.from_residual.result c.from_residual.ensures.1 in
+    let was = c.in_err-asked.was in
+    record {
+      first = record { offset = record { 0 = 0 }; count = 0 };
+      found = λ yes_too. absurd (cc (was, yes_too));
+      verdict = rw (p.1, p.2, was);
+    }
 
-pub returns-in-Yes : goal.returns-in-Yes
+pub returns : goal.returns
 unfolding verdict_with
-returns-in-Yes c =
-    let a = c.args in
-    record { first = c.first_piece.result; found = λ _. c.first_piece.ensures; verdict = ap (λ (r : ℕ). Accept r a.kind c.first_piece.result) c.top.ensures ∙ sym (ap (λ (t : Asked). verdict_with t (get_or a.free.now a.live 0) a.kind c.first_piece.result) c.in-Yes.is) }
+returns c =
+    let was = c.in_ok-asked.was in
+    record { first = c.first_piece.result; found = λ _. c.first_piece.ensures; verdict = rw (was, c.top.ensures) }

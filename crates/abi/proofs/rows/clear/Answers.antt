@@ -15,7 +15,7 @@ returns c =
     let a = c.args in
     let n = min a.depth (length a.words.now / 16) in
     let done : c.zeros.new.dst ≡ rows_cleared n a.words.now =
-    c.zeros.ensures ∙ ap (λ (k : ℕ). replicate (16 * k) 0 ++ drop (16 * k) a.words.now) c.lesser-n.ensures ∙ sym (cleared_is n a.words.now) in
+    c.zeros.ensures ∙ ap (λ (k : ℕ). replicate (16 * k) 0 ++ drop (16 * k) a.words.now) c.min-n.ensures ∙ sym (cleared_is n a.words.now) in
     let opened : rows_opened n (rows_in a.words.now) ≡ rows_opened (min a.depth (length (rows_in a.words.now))) (rows_in a.words.now) =
     ap (λ (k : ℕ). rows_opened (min a.depth k) (rows_in a.words.now)) (sym (count a.words.now)) in
     (ap rows_in done ∙ cleared_rows n a.words.now (min-le_right _ _) ∙ opened, done)

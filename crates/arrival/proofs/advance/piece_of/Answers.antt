@@ -4,4 +4,4 @@ use Rattle.arrival.proofs.advance.piece_of.Goals as goal
 
 pub returns : goal.returns
 unfolding wrap64
-returns c = rw (c.left.ensures, c.wrapping_add_u64.ensures.value, c.first_of-start.ensures) at c.first_piece.ensures
+returns c = rw (c.left.ensures, c.first_of-start.ensures) at c.first_piece.ensures

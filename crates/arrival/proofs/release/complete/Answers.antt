@@ -1,7 +1,7 @@
--- `release::complete` meets its contract: each part is what a callee ensures.
+-- `release::complete` meets its contract: what is published is the row's completion.
 use Rattle.step.specs.Step.{completion_of}
 use Rattle.arrival.proofs.release.complete.Goals as goal
 
-pub returns : goal.returns
+pub returns-clause-ready : goal.returns-clause-ready
 unfolding completion_of
-returns c = (c.poison.ensures, c.publish.ensures, c.own.ensures)
+returns-clause-ready c = c.publish.ensures

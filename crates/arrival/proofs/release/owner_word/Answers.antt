@@ -2,10 +2,10 @@
 use Rattle.arrival.specs.Carried.{owner_word}
 use Rattle.arrival.proofs.release.owner_word.Goals as goal
 
-pub returns-in-Back : goal.returns-in-Back
+pub returns-in-Some : goal.returns-in-Some
 unfolding owner_word
-returns-in-Back c = rw c.in-Back.is
+returns-in-Some c = rw c.in-Some.is
 
-pub returns-in-Lost : goal.returns-in-Lost
+pub returns-in-None : goal.returns-in-None
 unfolding owner_word
-returns-in-Lost c = rw c.in-Lost.is
+returns-in-None c = rw c.in-None.is

@@ -1,17 +1,12 @@
 -- `release::poison` meets its contract: each arm knows whether there is a cause.
-use Rattle.std.proofs.Common.{sym, ap, ◌∙◌}
-use Rattle.domain.specs.declared.Poisoned.{Poisoned}
+use Rattle.std.proofs.Common.{rules}
 use Rattle.arrival.specs.Carried.{poisoned_by}
 use Rattle.arrival.proofs.release.poison.Goals as goal
 
-pub returns-in-Never : goal.returns-in-Never
+pub returns-in-Some : goal.returns-in-Some
 unfolding poisoned_by
-returns-in-Never c =
-    let a = c.args in
-    sym (ap (λ (x : Poisoned). poisoned_by x a.store.now) c.in-Never.is)
+returns-in-Some c = search rules
 
-pub returns-in-First : goal.returns-in-First
+pub returns-in_default : goal.returns-in_default
 unfolding poisoned_by
-returns-in-First c =
-    let a = c.args in
-    c.poison.ensures ∙ sym (ap (λ (x : Poisoned). poisoned_by x a.store.now) c.in-First.is)
+returns-in_default c = search rules

@@ -12,7 +12,7 @@ pub loop-i-init : goal.loop-i-init
 loop-i-init c =
     let a = c.args in
     let least : min a.depth (length a.rows.now / 16) ≡ min a.depth (length (rows_in a.rows.now)) = ap (min a.depth) (sym (count a.rows.now)) in
-    (omega (arith, c.lesser-i.ensures), none_found a.next a.depth (rows_in a.rows.now) ∙ ap (found a.next a.depth (rows_in a.rows.now)) (sym (c.lesser-i.ensures ∙ least)))
+    (omega (arith, c.min-n.ensures), none_found a.next a.depth (rows_in a.rows.now) ∙ ap (found a.next a.depth (rows_in a.rows.now)) (sym (c.min-n.ensures ∙ least)))
 
 pub loop-i-preserved : goal.loop-i-preserved
 loop-i-preserved c =

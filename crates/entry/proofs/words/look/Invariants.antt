@@ -8,6 +8,3 @@ use Rattle.entry.proofs.words.look.Given as goal
 
 abbrev pub invariant-loop-i : goal.invariant-loop-i
 invariant-loop-i l = (l.i ≤ min l.depth (length l.rows / 16)) × (l.l ≡ found l.next l.depth (rows_in l.rows) l.i)
-
-abbrev pub decreases-loop-i : goal.decreases-loop-i
-decreases-loop-i l = l.i

@@ -1,10 +1,7 @@
--- `words::are_numbers` meets its contract: the fields behind the k-th are numbers, so all are where those up to the k-th are. The measure is k.
-use mathlib.Core.Path.{◌≡◌}
-use Rattle.fields.specs.Fields.{are_numbers}
+-- `words::are_numbers` meets its contract: the fields before the k-th are numbers.
+use Rattle.std.proofs.Common.{◌≡◌, ◌≤◌, ◌<◌, ℕ, true}
+use Rattle.fields.specs.Fields.{field, is_number}
 use Rattle.fields.proofs.words.are_numbers.Given as goal
 
 abbrev pub invariant-loop-k : goal.invariant-loop-k
-invariant-loop-k l = are_numbers l.n l.text ≡ are_numbers l.k l.text
-
-abbrev pub decreases-loop-k : goal.decreases-loop-k
-decreases-loop-k l = l.k
+invariant-loop-k l = (j : ℕ) → 1 ≤ j → j < l.k → is_number (field j l.text) ≡ true

@@ -1,37 +1,27 @@
-use mathlib.Core.Path.{◌≡◌, refl, sym, ap, ◌∙◌}
-use Prim.Native.Nat.{ℕ}
-use native.Mathlib.Numerals.{add-one}
+use Rattle.std.proofs.Common.{◌≡◌, ◌∙◌, ℕ, add-one, ap, arith, drop, length, refl, sym}
 use native.Mathlib.Nat.{mod-lt}
-use native.Mathlib.Omega.{arith}
-use lib.ListN.{length, drop}
-use lib.Seq.{drop-length}
+use Rattle.std.proofs.Math.Seq.{drop-length}
 use Rattle.hostfill.specs.Writes.{sum_from, sum_of}
 use Rattle.hostfill.proofs.Bytes.{one_more_lem}
 use Rattle.hostfill.proofs.pool.sum.Goals as goal
 
-pub loop-i-init : goal.loop-i-init
+pub loop-b-init : goal.loop-b-init
 unfolding sum_of
-loop-i-init c = (omega arith, omega arith, omega arith, refl)
+loop-b-init c = record { first = omega arith; second = omega arith; left = refl }
 
-pub overflow_cast-s1 : goal.overflow_cast-s1
-overflow_cast-s1 c = omega (arith, c.shared_slice_known-1.given c.loop-i.i)
-
-pub overflow_add-s1 : goal.overflow_add-s1
-overflow_add-s1 c = omega (arith, c.shared_slice_known-1.given c.loop-i.i)
-
-pub loop-i-preserved : goal.loop-i-preserved
-loop-i-preserved c =
+pub loop-b-preserved : goal.loop-b-preserved
+loop-b-preserved c =
     let bytes = c.args.bytes.now in
-    let i = c.loop-i.i in (
-      omega arith,
-      mod-lt _ (omega arith),
-      mod-lt _ (omega arith),
-      rw add-one (sym (one_more_lem c.loop-i.s1 c.loop-i.s2 i bytes (omega arith)) ∙ c.loop-i.invariant.3),
-    )
+    let i = c.loop-b.b-index in
+    record {
+      first = mod-lt _ (omega arith);
+      second = mod-lt _ (omega arith);
+      left = rw (add-one, c.from.ensures) (sym (one_more_lem c.loop-b.s1 c.loop-b.s2 i bytes (omega arith)) ∙ c.loop-b.invariant.left);
+    }
 
 pub returns : goal.returns
 unfolding sum_from
 returns c =
     let bytes = c.args.bytes.now in
-    let all : c.loop-i.i ≡ length bytes = omega arith in
-    sym (ap (sum_from c.loop-i.s1 c.loop-i.s2) (ap (λ (k : ℕ). drop k bytes) all ∙ drop-length bytes)) ∙ c.loop-i.invariant.3
+    let all : c.loop-b.b-index ≡ length bytes = omega arith in
+    sym (ap (sum_from c.loop-b.s1 c.loop-b.s2) (ap (λ (k : ℕ). drop k bytes) all ∙ drop-length bytes)) ∙ c.loop-b.invariant.left

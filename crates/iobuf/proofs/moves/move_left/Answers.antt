@@ -1,20 +1,16 @@
-use mathlib.Core.Path.{◌≡◌, refl, ap, ◌∙◌}
-use mathlib.Core.List.{List, ◌++◌}
-use Prim.Native.Nat.{ℕ, ◌+◌, ◌-◌}
+use mathlib.Core.Path.{◌≡◌, ap, ◌∙◌}
+use Prim.Native.Nat.{◌+◌}
 use native.Mathlib.Omega.{arith}
-use lib.ListN.{length-drop, length, take, drop}
-use lib.Seq.{length-take-le, length_front, take_all, paste}
+use lib.ListN.{length, take, drop}
+use lib.Seq.{length-take-le, length_front, paste}
 use Rattle.iobuf.proofs.Parts.{left_hop}
 use Rattle.iobuf.proofs.moves.move_left.Goals as goal
-
-pub loop-at-init : goal.loop-at-init
-loop-at-init c = (omega arith, refl, refl, refl)
 
 pub loop-at-preserved : goal.loop-at-preserved
 loop-at-preserved c =
     let l = c.args.s.now in
     let held = c.loop-at.held in
-    let count = c.lesser-count.result in
+    let count = c.min-count.result in
     let part : length (take count held) ≡ count = length-take-le count held (omega arith) in
     let at = c.loop-at.at in (
       omega arith,
@@ -23,11 +19,3 @@ loop-at-preserved c =
       c.hop.ensures ∙ ap (paste c.loop-at.s at (drop (at + c.args.k) c.loop-at.s)) part
           ∙ left_hop l c.loop-at.s c.args.k at count (omega arith) c.loop-at.invariant.3,
     )
-
-pub returns : goal.returns
-returns c =
-    let l = c.args.s.now in
-    let k = c.args.k in
-    let all : c.loop-at.at ≡ length l - k = omega arith in
-    c.loop-at.invariant.3 ∙ (λ i. take (all i) (drop k l) ++ drop (all i) l)
-    ∙ ap (λ (r : List ℕ). r ++ drop (length l - k) l) (take_all (length l - k) (drop k l) (simp length-drop (omega arith)))

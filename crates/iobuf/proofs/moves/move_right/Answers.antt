@@ -1,25 +1,17 @@
-use mathlib.Core.Path.{◌≡◌, refl, sym, ap, ◌∙◌}
-use mathlib.Core.List.{append-nil, ◌++◌}
+use mathlib.Core.Path.{◌≡◌, ap, ◌∙◌}
+use mathlib.Core.List.{◌++◌}
 use Prim.Native.Nat.{ℕ, ◌+◌, ◌-◌}
 use native.Mathlib.Omega.{arith}
 use lib.ListN.{length, take, drop}
-use lib.Seq.{length-take-le, length_front, take-length, paste}
+use lib.Seq.{length-take-le, length_front, paste}
 use Rattle.iobuf.proofs.Parts.{right_hop}
 use Rattle.iobuf.proofs.moves.move_right.Goals as goal
-
-pub loop-end-init : goal.loop-end-init
-loop-end-init c =
-    let l = c.args.s.now in
-    let k = c.args.k in
-    let whole : length l - k + k ≡ length l = omega arith in
-    let none : length l - k - (length l - k) ≡ 0 = omega arith in
-    (omega arith, refl, refl, sym ((λ i. take (whole i) l ++ take (none i) (drop (length l - k) l)) ∙ append-nil (take (length l) l) ∙ take-length l))
 
 pub loop-end-preserved : goal.loop-end-preserved
 loop-end-preserved c =
     let l = c.args.s.now in
     let held = c.loop-end.held in
-    let count = c.lesser-count.result in
+    let count = c.min-count.result in
     let part : length (take count held) ≡ count = length-take-le count held (omega arith) in
     let k = c.args.k in
     let end = c.loop-end.end - count in
@@ -34,12 +26,3 @@ loop-end-preserved c =
           (c.loop-end.invariant.3 ∙ (λ i. take (before i + k) l ++ take j (drop (before i) l)))
           ∙ ap (λ (n : ℕ). take (end + k) l ++ take n (drop end l)) more,
     )
-
-pub returns : goal.returns
-returns c =
-    let l = c.args.s.now in
-    let k = c.args.k in
-    let none : c.loop-end.end ≡ 0 = omega arith in
-    let all : length l - k - 0 ≡ length l - k = omega arith in
-    let first : 0 + k ≡ k = omega arith in
-    c.loop-end.invariant.3 ∙ (λ i. take (none i + k) l ++ take (length l - k - none i) (drop (none i) l)) ∙ (λ i. take (first i) l ++ take (all i) l)

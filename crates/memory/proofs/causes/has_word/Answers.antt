@@ -1,12 +1,8 @@
--- `causes::has_word` meets its contract: each arm knows the case.
+-- `causes::has_word` meets its contract.
+use Rattle.std.proofs.Common.{rules}
 use Rattle.model.specs.Memory.{has_word}
-use borrow.Author.Rules.{rules}
 use Rattle.memory.proofs.causes.has_word.Goals as goal
 
-pub returns-in-None : goal.returns-in-None
+pub returns : goal.returns
 unfolding has_word
-returns-in-None c = search rules
-
-pub returns-in-Raw : goal.returns-in-Raw
-unfolding has_word
-returns-in-Raw c = search rules
+returns c = search rules

@@ -1,11 +1,4 @@
-use mathlib.Core.Path.{◌≡◌, refl, sym, ap, ap₂, ◌∙◌}
-use mathlib.Core.List.{List, [], ◌∷◌, ◌++◌}
-use Prim.Native.Nat.{ℕ, zero, suc, ◌+◌, ◌<◌}
-use native.Mathlib.Nat.{add-zero, not-suc-le-zero, le_of_suc-le-suc}
-use native.Mathlib.Numerals.{add-one}
-use native.Mathlib.Omega.{arith}
-use borrow.Author.Rules.{rules}
-use lib.ListN.{length, drop, set, length-set}
+use Rattle.std.proofs.Common.{◌≡◌, refl, ap, ap₂, ◌∙◌, List, [], ◌∷◌, ◌++◌, ℕ, zero, suc, ◌+◌, ◌<◌, add-zero, add-one, not-suc-le-zero, le_of_suc-le-suc, arith, length, take, drop, set}
 use Rattle.model.specs.State.{up_from}
 use Rattle.memory.proofs.fill.count_up.Goals as goal
 
@@ -20,23 +13,11 @@ counted k (suc n) (x ∷ d) l =
 
 pub loop-i-init : goal.loop-i-init
 unfolding up_from
-loop-i-init c = (search rules, refl, refl)
+loop-i-init c = refl
 
 pub loop-i-preserved : goal.loop-i-preserved
 loop-i-preserved c =
-    let a = c.args in
     let at = c.loop-i in
-    let here : at.i ≡ 0 + at.i = omega arith in (
-      search rules,
-      ap₂ (λ (l : List ℕ) (v : ℕ). set l at.i v) at.invariant.1 here
-          ∙ counted 0 at.i a.dst.now (omega arith)
-          ∙ ap (λ (k : ℕ). up_from 0 k ++ drop k a.dst.now) (sym (add-one at.i)),
-      length-set at.dst _ _ ∙ at.invariant.2,
-    )
-
-pub returns : goal.returns
-returns c =
-    let a = c.args in
-    let at = c.loop-i in
-    let all : at.i ≡ a.n = omega arith in
-    at.invariant.1 ∙ ap (λ (k : ℕ). up_from 0 k ++ drop k a.dst.now) all
+    let here : at.i ≡ 0 + at.i = omega arith in
+    ap₂ (λ (l : List ℕ) (v : ℕ). set l at.i v) at.invariant here
+    ∙ rw add-one (counted 0 at.i (take c.args.n c.args.dst.now) c.loop-i-test.true)

@@ -46,10 +46,6 @@ both-put xs ys s n e =
     let all : length (xs ++ ys) ≡ n + length ys = length-append xs ys ∙ ap (λ (k : ℕ). k + length ys) e in
     ap₂ (λ (a b : List ℕ). a ++ ys ++ b) (take_at xs (drop n s) n e) tail ∙ ap (λ (k : ℕ). xs ++ ys ++ drop k s) (sym all)
 
-pub slice_bounds-put_words-end-2 : goal.slice_bounds-put_words-end-2
-slice_bounds-put_words-end-2 c =
-    sym (length-take-le (70 * c.args.o.regions) c.args.plan.now c.requires.1.0)
-
 pub put_words-requires-2 : goal.put_words-requires-2
 put_words-requires-2 c =
     let len = length-take-le (70 * c.args.o.regions) c.args.plan.now c.requires.1.0 in

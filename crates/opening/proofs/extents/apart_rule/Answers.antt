@@ -1,44 +1,22 @@
-use mathlib.Core.Path.{refl, sym, ◌∙◌}
-use mathlib.Core.List.{List}
-use Prim.Native.Nat.{◌<◌}
+-- `extents::apart_rule` meets its contract: whether each run of the row is apart from those behind it.
+use mathlib.Core.Path.{◌≡◌, refl}
+use mathlib.Core.Bool.{true, false}
+use Prim.Native.Nat.{ℕ, ◌+◌}
 use native.Mathlib.Omega.{arith}
 use borrow.Author.Rules.{rules}
-use lib.ListN.{length}
-use Rattle.regionmap.specs.Map.{Extent}
-use Rattle.opening.proofs.Walk.{stops, goes, ends}
-use Rattle.opening.proofs.CardRuns.{row, all_apart_lem}
+use borrow.Author.Tests.{tests}
+use lib.ListN.{get_or, drop}
+use Rattle.std.proofs.lemmas.Iterator.{cases_from_all, YieldsList-from_range}
+use Rattle.regionmap.specs.Map.{apart_from}
+use Rattle.opening.proofs.Walk.{asked}
+use Rattle.opening.proofs.CardRuns.{no_bytes, row, all_apart_lem}
 use Rattle.opening.proofs.extents.apart_rule.Goals as goal
-use Rattle.opening.proofs.extents.apart_rule.Goals.{Start}
-
-abbrev row_of : Start → List Extent
-row_of c = row c.args.plan.now c.args.regions
-
-pub run_count-count-requires : goal.run_count-count-requires
-run_count-count-requires c = c.requires
-
-pub loop-k-init : goal.loop-k-init
-loop-k-init c = (search rules, refl)
-
-pub apart_behind-requires : goal.apart_behind-requires
-apart_behind-requires c =
-    (c.requires.0, (c.requires.1, (c.run_count-count.ensures, c.loop-k-test.true)))
-
-pub returns-then-not-apart_behind : goal.returns-then-not-apart_behind
-returns-then-not-apart_behind c =
-    let start = (goal.at.returns-then-not-apart_behind c).Start in
-    let at = c.loop-k in
-    let l : at.k < length (row_of start) = omega arith in
-    stops (all_apart_lem (row_of start)) at.k at.invariant.1 l (sym c.apart_behind.ensures ∙ c.if-not-apart_behind.true)
-
-pub loop-k-preserved : goal.loop-k-preserved
-loop-k-preserved c =
-    let start = (goal.at.loop-k-preserved c).Start in
-    let at = c.loop-k in
-    let l : at.k < length (row_of start) = omega arith in
-    (search rules, goes (all_apart_lem (row_of start)) at.k at.invariant.1 l (sym c.apart_behind.ensures ∙ c.if-not-apart_behind.false))
 
 pub returns : goal.returns
 returns c =
-    let start = (goal.at.returns c).Start in
-    let at = c.loop-k in
-    ends (all_apart_lem (row_of start)) at.k at.invariant.1 (omega arith)
+    let a = c.args in
+    let count = c.run_count-count.result in
+    let test = λ (k : ℕ). apart_from (get_or (row a.plan.now a.regions) k no_bytes) (drop (k + 1) (row a.plan.now a.regions)) in
+    asked (all_apart_lem (row a.plan.now a.regions)) 0 count (omega arith) c.all.result
+    (cases_from_all _ _ _ (λ k. test k ≡ true) (λ k. test k ≡ false) c.all.ensures.ran (YieldsList-from_range 0 count count refl (omega arith))
+    (λ x q k. search (rules, tests)) (λ x q k. search (rules, tests)))

@@ -1,50 +1,33 @@
-use mathlib.Core.Path.{◌≡◌, sym, ap, ◌∙◌}
-use mathlib.Core.List.{List}
-use Prim.Native.Nat.{ℕ, ◌+◌, ◌-◌, ◌*◌}
+-- `plans::each_region` meets its contract: the regions that are left are tested one behind the other.
+use mathlib.Core.Path.{◌≡◌, refl, sym, ap, ◌∙◌}
+use mathlib.Core.Bool.{true, false}
+use mathlib.Core.List.{List, ◌∷◌}
+use Prim.Native.Nat.{ℕ, ◌+◌, ◌*◌, ◌-◌}
 use native.Mathlib.Omega.{arith}
 use borrow.Author.Rules.{rules}
-use lib.ListN.{take, drop, length-take, length-drop}
+use borrow.Author.Tests.{tests}
+use lib.ListN.{take, drop}
+use Rattle.std.proofs.lemmas.Iterator.{cases_from_all, YieldsList-from_range}
 use Rattle.model.specs.Opening.{region_rule, each_region, plan_in}
 use Rattle.opening.specs.Plans.{plans_from}
-use Rattle.opening.proofs.Walk.{Walk, stops, goes, ends}
-use Rattle.opening.proofs.Steps.{region_words, plans_step, plans_end, plans_all, part_of_70}
+use Rattle.opening.proofs.Walk.{Walk, asked}
+use Rattle.opening.proofs.Steps.{plans_step, plans_end, plans_all, part_of_70}
 use Rattle.opening.proofs.plans.each_region.Goals as goal
 
-walk : (b : ℕ) (ws : List ℕ) (n : ℕ) → Walk n (λ h. region_rule b (plan_in (region_words ws h))) (λ h. each_region b (plans_from ws n h))
+-- the words of a region as the code lends them
+walk : (b : ℕ) (ws : List ℕ) (n : ℕ)
+    → Walk n (λ h. region_rule b (plan_in (take (70 * h + 70 - 70 * h) (drop (70 * h) ws)))) (λ h. each_region b (plans_from ws n h))
 unfolding each_region
 walk b ws n = record {
-  step = λ h l. ap (each_region b) (plans_step ws n h l);
+  step = λ h l. ap (each_region b) (plans_step ws n h l ∙ ap (λ (v : List ℕ). plan_in v ∷ plans_from ws n (h + 1)) (sym (part_of_70 ws h)));
   end = λ h l. ap (each_region b) (plans_end ws n h l);
 }
-
--- what `region_rule` says of a part of the plan
-tested : (b : ℕ) (ws : List ℕ) (h : ℕ) → region_rule b (plan_in (take (70 * h + 70 - 70 * h) (drop (70 * h) ws))) ≡ region_rule b (plan_in (region_words ws h))
-tested b ws h = ap (λ (v : List ℕ). region_rule b (plan_in v)) (part_of_70 ws h)
-
-pub loop-h-init : goal.loop-h-init
-loop-h-init c = let a = c.args in (search rules, ap (each_region a.block) (plans_all a.plan.now a.regions))
-
-pub region_rule-requires : goal.region_rule-requires
-region_rule-requires c = simp (length-take, length-drop) (omega arith)
-
-pub returns-then-not-region_rule : goal.returns-then-not-region_rule
-returns-then-not-region_rule c =
-    let a = c.args in
-    let at = c.loop-h in
-    stops (walk a.block a.plan.now a.regions) at.h at.invariant.1 c.loop-h-test.true
-    (sym (tested a.block a.plan.now at.h) ∙ sym c.region_rule.ensures ∙ c.if-not-region_rule.true)
-
-pub loop-h-preserved : goal.loop-h-preserved
-loop-h-preserved c =
-    let a = c.args in
-    let at = c.loop-h in (
-      search rules,
-      goes (walk a.block a.plan.now a.regions) at.h at.invariant.1 c.loop-h-test.true
-          (sym (tested a.block a.plan.now at.h) ∙ sym c.region_rule.ensures ∙ c.if-not-region_rule.false),
-    )
 
 pub returns : goal.returns
 returns c =
     let a = c.args in
-    let at = c.loop-h in
-    ends (walk a.block a.plan.now a.regions) at.h at.invariant.1 c.loop-h-test.false
+    let test = λ (h : ℕ). region_rule a.block (plan_in (take (70 * h + 70 - 70 * h) (drop (70 * h) a.plan.now))) in
+    asked (walk a.block a.plan.now a.regions) 0 a.regions (omega arith) c.all.result
+    (cases_from_all _ _ _ (λ h. test h ≡ true) (λ h. test h ≡ false) c.all.ensures.ran (YieldsList-from_range 0 a.regions a.regions refl (omega arith))
+    (λ x q k. search (rules, tests)) (λ x q k. search (rules, tests)))
+    ∙ ap (each_region a.block) (plans_all a.plan.now a.regions)

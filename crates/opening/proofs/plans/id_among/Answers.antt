@@ -1,47 +1,43 @@
-use mathlib.Core.Path.{◌≡◌, refl, sym, ap, ◌∙◌}
-use mathlib.Core.Bool.{Bool, false, ◌||◌}
+-- `plans::id_among` meets its contract: the ids that are left are compared one behind the other.
+use mathlib.Core.Path.{◌≡◌, refl, ap, ◌∙◌}
+use mathlib.Core.Bool.{Bool, true, false, not, ◌||◌, ◌&&◌}
 use mathlib.Core.List.{List, map}
-use Prim.Native.Nat.{ℕ, ◌+◌, ◌*◌, ◌≤◌, ◌<◌}
+use Prim.Native.Nat.{ℕ, ◌+◌, ◌*◌, ◌-◌}
+use native.Mathlib.Omega.{arith}
 use borrow.Author.Rules.{rules}
-use borrow.Author.Tests.{eq-eqb, ne_eqb}
+use borrow.Author.Tests.{tests}
 use lib.ListN.{get_or}
 use lib.Dec.{eqb}
+use Rattle.std.proofs.lemmas.Iterator.{cases_from_any, YieldsList-from_range}
 use Rattle.model.specs.Opening.{Plan, among}
 use Rattle.opening.specs.Plans.{ids_from}
+use Rattle.opening.proofs.Walk.{Walk, asked_any}
 use Rattle.opening.proofs.Steps.{plans_step, plans_end, id_word}
 use Rattle.opening.proofs.plans.id_among.Goals as goal
 
-among-step : (id : ℕ) (ws : List ℕ) (n h : ℕ) → h < n → among id (ids_from ws n h) ≡ (eqb id (get_or ws (70 * h) 0) || among id (ids_from ws n (h + 1)))
+not_or : (a b : Bool) → not (a || b) ≡ (not a && not b)
+not_or true b = refl
+not_or false b = refl
+
+not_not : (a : Bool) → not (not a) ≡ a
+not_not true = refl
+not_not false = refl
+
+walk : (id : ℕ) (ws : List ℕ) (n : ℕ) → Walk n (λ h. not (eqb id (get_or ws (70 * h) 0))) (λ h. not (among id (ids_from ws n h)))
 unfolding among
-among-step id ws n h l =
-    ap (λ (ps : List Plan). among id (map (λ p. p.id) ps)) (plans_step ws n h l)
-    ∙ ap (λ (x : ℕ). eqb id x || among id (ids_from ws n (h + 1))) (id_word ws h)
-
-among-end : (id : ℕ) (ws : List ℕ) (n h : ℕ) → n ≤ h → among id (ids_from ws n h) ≡ false
-unfolding among
-among-end id ws n h l = ap (λ (ps : List Plan). among id (map (λ p. p.id) ps)) (plans_end ws n h l)
-
-pub loop-h-init : goal.loop-h-init
-loop-h-init c = (search rules, refl)
-
-pub returns-then-id-plan : goal.returns-then-id-plan
-returns-then-id-plan c =
-    let a = c.args in
-    let at = c.loop-h in
-    sym (sym at.invariant.1 ∙ among-step a.id a.plan.now a.regions at.h c.loop-h-test.true
-    ∙ ap (λ (t : Bool). t || among a.id (ids_from a.plan.now a.regions (at.h + 1))) (eq-eqb _ _ c.if-id-plan.true))
-
-pub loop-h-preserved : goal.loop-h-preserved
-loop-h-preserved c =
-    let a = c.args in
-    let at = c.loop-h in (
-      search rules,
-      sym (among-step a.id a.plan.now a.regions at.h c.loop-h-test.true
-          ∙ ap (λ (t : Bool). t || among a.id (ids_from a.plan.now a.regions (at.h + 1))) (ne_eqb _ _ c.if-id-plan.false)) ∙ at.invariant.1,
-    )
+walk id ws n = record {
+  step = λ h l.
+      ap (λ (ps : List Plan). not (among id (map (λ p. p.id) ps))) (plans_step ws n h l)
+      ∙ ap (λ (x : ℕ). not (eqb id x || among id (ids_from ws n (h + 1)))) (id_word ws h)
+      ∙ not_or (eqb id (get_or ws (70 * h) 0)) (among id (ids_from ws n (h + 1)));
+  end = λ h l. ap (λ (ps : List Plan). not (among id (map (λ p. p.id) ps))) (plans_end ws n h l);
+}
 
 pub returns : goal.returns
 returns c =
     let a = c.args in
-    let at = c.loop-h in
-    sym (sym at.invariant.1 ∙ among-end a.id a.plan.now a.regions at.h c.loop-h-test.false)
+    let test = λ (h : ℕ). not (eqb a.id (get_or a.plan.now (70 * h) 0)) in
+    asked_any (walk a.id a.plan.now a.regions) a.from (a.regions - a.from) (omega arith) c.any.result
+    (cases_from_any _ _ _ (λ h. test h ≡ false) (λ h. test h ≡ true) c.any.ensures.ran (YieldsList-from_range a.from a.regions (a.regions - a.from) refl (omega arith))
+    (λ x q k. search (rules, tests)) (λ x q k. search (rules, tests)))
+    ∙ not_not (among a.id (ids_from a.plan.now a.regions a.from))

@@ -1,12 +1,16 @@
-use mathlib.Core.Path.{sym, ap, ◌∙◌}
-use mathlib.Core.Bool.{Bool, not, ◌&&◌}
+-- `plans::ids_rule` meets its contract: each id is looked for among those behind it.
+use mathlib.Core.Path.{◌≡◌, refl, ap, ◌∙◌}
+use mathlib.Core.Bool.{Bool, true, false, not, ◌&&◌}
 use mathlib.Core.List.{List}
 use Prim.Native.Nat.{ℕ, ◌+◌, ◌*◌}
+use native.Mathlib.Omega.{arith}
 use borrow.Author.Rules.{rules}
+use borrow.Author.Tests.{tests}
 use lib.ListN.{get_or}
+use Rattle.std.proofs.lemmas.Iterator.{cases_from_all, YieldsList-from_range}
 use Rattle.model.specs.Opening.{among, distinct, ids_rule}
 use Rattle.opening.specs.Plans.{plans_from, ids_from}
-use Rattle.opening.proofs.Walk.{Walk, stops, goes, ends}
+use Rattle.opening.proofs.Walk.{Walk, asked}
 use Rattle.opening.proofs.Steps.{plans_step, plans_end, plans_all, id_word}
 use Rattle.opening.proofs.plans.ids_rule.Goals as goal
 
@@ -21,27 +25,11 @@ walk ws n = record {
   end = λ h l. ap ids_rule (plans_end ws n h l);
 }
 
-pub loop-h-init : goal.loop-h-init
-loop-h-init c = let a = c.args in (search rules, ap ids_rule (plans_all a.plan.now a.regions))
-
-pub returns-then-id_among : goal.returns-then-id_among
-returns-then-id_among c =
-    let a = c.args in
-    let at = c.loop-h in
-    stops (walk a.plan.now a.regions) at.h at.invariant.1 c.loop-h-test.true
-    (ap not (sym c.id_among.ensures ∙ c.if-id_among.true))
-
-pub loop-h-preserved : goal.loop-h-preserved
-loop-h-preserved c =
-    let a = c.args in
-    let at = c.loop-h in (
-      search rules,
-      goes (walk a.plan.now a.regions) at.h at.invariant.1 c.loop-h-test.true
-          (ap not (sym c.id_among.ensures ∙ c.if-id_among.false)),
-    )
-
 pub returns : goal.returns
 returns c =
     let a = c.args in
-    let at = c.loop-h in
-    ends (walk a.plan.now a.regions) at.h at.invariant.1 c.loop-h-test.false
+    let test = unlike a.plan.now a.regions in
+    asked (walk a.plan.now a.regions) 0 a.regions (omega arith) c.all.result
+    (cases_from_all _ _ _ (λ h. test h ≡ true) (λ h. test h ≡ false) c.all.ensures.ran (YieldsList-from_range 0 a.regions a.regions refl (omega arith))
+    (λ x q k. search (rules, tests)) (λ x q k. search (rules, tests)))
+    ∙ ap ids_rule (plans_all a.plan.now a.regions)

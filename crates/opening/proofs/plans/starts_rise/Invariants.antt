@@ -2,7 +2,7 @@
 use mathlib.Core.Path.{◌≡◌}
 use mathlib.Core.Bool.{Bool}
 use mathlib.Core.List.{List}
-use Prim.Native.Nat.{ℕ, ◌-◌, ◌≤◌}
+use Prim.Native.Nat.{ℕ}
 use lib.ListN.{get_or, drop}
 use Rattle.regionmap.specs.Map.{ascends}
 use Rattle.regionmap.specs.Words.{runs_in}
@@ -14,7 +14,4 @@ abbrev pub left : List ℕ → ℕ → ℕ → ℕ → Bool
 left ws n lo j = ascends lo (runs_from ws n j) (get_or ws 1 0)
 
 abbrev pub invariant-loop-j : goal.invariant-loop-j
-invariant-loop-j l = (l.j ≤ l.count) × (left l.map l.count l.lo l.j ≡ ascends 0 (runs_in l.count (drop 4 l.map)) (get_or l.map 1 0))
-
-abbrev pub decreases-loop-j : goal.decreases-loop-j
-decreases-loop-j l = l.count - l.j
+invariant-loop-j l = left l.map l.count l.lo l.j ≡ ascends 0 (runs_in l.count (drop 4 l.map)) (get_or l.map 1 0)

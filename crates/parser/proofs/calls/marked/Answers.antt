@@ -1,15 +1,21 @@
--- `calls::marked` meets its contract: each way out knows the words that the line is not of, and the one that it is.
-use mathlib.Core.Path.{sym, ◌∙◌}
+-- `calls::marked` meets its contract: by its word the row that fits, and its parts are the row's; another word has none.
+use Rattle.std.proofs.Common.{◌≡◌, ◌&&◌, ◌∙◌, arith, sym}
+use Rattle.std.proofs.lemmas.Grind.{common_steps}
+use Rattle.fields.specs.Fields.{are_numbers, is_flag}
 use Rattle.parser.proofs.Table.{ro_line, force_line, no_two}
 use Rattle.parser.proofs.calls.marked.Goals as goal
 
 pub returns-then-is_word : goal.returns-then-is_word
 returns-then-is_word c =
-    cc (ro_line c.args.text.now c.requires.three_fields (sym c.is_word.ensures ∙ c.if-is_word.true))
+    let text = c.args.text.now in
+    let fit : c.if-are_numbers.fit ≡ (are_numbers 2 text && is_flag 2 text) = grind (arith, common_steps) in
+    cc (ro_line text c.requires.three_fields (sym c.is_word.ensures ∙ c.if-is_word.true))
 
 pub returns-then-is_word-2 : goal.returns-then-is_word-2
 returns-then-is_word-2 c =
-    cc (force_line c.args.text.now c.requires.three_fields (sym c.is_word-2.ensures ∙ c.if-is_word-2.true))
+    let text = c.args.text.now in
+    let fit : c.if-are_numbers.fit ≡ (are_numbers 2 text && is_flag 2 text) = grind (arith, common_steps) in
+    cc (force_line text c.requires.three_fields (sym c.is_word-2.ensures ∙ c.if-is_word-2.true))
 
 pub returns : goal.returns
 returns c =

@@ -1,5 +1,6 @@
 -- `lines::said_in` meets its contract: a line that starts with `#` is a comment; any other is read by its number of fields, and there is no form of another number.
 use mathlib.Core.Path.{sym, ◌∙◌}
+use native.Mathlib.Omega.{arith}
 use Rattle.parser.proofs.Table.{comment_line, no_comment, no_number}
 use Rattle.parser.proofs.lines.said_in.Goals as goal
 
@@ -31,5 +32,5 @@ pub returns-in_default : goal.returns-in_default
 returns-in_default c =
     let text = c.args.text.now in
     let counted = c.count_spaces.ensures in
-    no_number text (λ e. c.in_default.in_default-own.rest.0.0.0.0.0.0.1 (counted ∙ e)) (λ e. c.in_default.in_default-own.rest.0.0.0.0.0.1 (counted ∙ e)) (λ e. c.in_default.in_default-own.rest.0.0.0.0.1 (counted ∙ e)) (λ e. c.in_default.in_default-own.rest.0.0.0.1 (counted ∙ e)) (λ e. c.in_default.in_default-own.rest.0.0.1 (counted ∙ e)) (λ e. c.in_default.in_default-own.rest.0.1 (counted ∙ e)) (λ e. c.in_default.in_default-own.rest.1 (counted ∙ e))
+    no_number text (λ e. omega (arith, counted, e)) (λ e. omega (arith, counted, e)) (λ e. omega (arith, counted, e)) (λ e. omega (arith, counted, e)) (λ e. omega (arith, counted, e)) (λ e. omega (arith, counted, e)) (λ e. omega (arith, counted, e))
     ∙ no_comment text (λ e. c.if-first_byte-eq35.false (c.first_byte.ensures ∙ e))

@@ -1,43 +1,28 @@
-use mathlib.Core.Path.{refl, sym, ap, ◌∙◌}
-use mathlib.Core.List.{List, ◌++◌, append_assoc, append-nil}
-use Prim.Native.Nat.{ℕ, ◌+◌}
-use native.Mathlib.Omega.{arith}
-use lib.ListN.{take, drop, get_or}
+use Rattle.std.proofs.Common.{List, ◌++◌, ℕ, ◌+◌, append_assoc, append-nil, arith, ap, drop, get_or, sym, ◌∙◌}
 use Rattle.printer.specs.Spaced.{spaced}
 use Rattle.printer.specs.Parts.{spaced_all, fields_of}
 use Rattle.printer.proofs.Numbers.{numbers_on, numbers_end}
 use Rattle.printer.proofs.parts.put_fields.Goals as goal
 
-pub loop-i-init : goal.loop-i-init
-loop-i-init c = (omega arith, omega arith, refl, refl)
-
-pub loop-i-preserved : goal.loop-i-preserved
-loop-i-preserved c =
+pub loop-n-preserved : goal.loop-n-preserved
+loop-n-preserved g c =
     let ns = c.args.numbers.now in
-    let i = c.loop-i.i in
-    let step = c.put_spaced-end.ensures in (
-      omega arith,
-      omega arith,
-      omega arith,
-      ap (λ (l : List ℕ). l ++ spaced_all (drop (i + 1) ns)) step.1.1
-          ∙ append_assoc (take c.loop-i.end c.loop-i.out) (spaced (get_or ns i 0)) (spaced_all (drop (i + 1) ns))
-          ∙ ap (λ (l : List ℕ). take c.loop-i.end c.loop-i.out ++ l) (sym (numbers_on ns i (omega arith)))
-          ∙ c.loop-i.invariant.3,
-    )
+    let i = c.loop-n.n-index in
+    record {
+      room = omega arith;
+      text =
+          ap (λ (l : List ℕ). l ++ spaced_all (drop (i + 1) ns)) c.put_spaced.ensures.text
+          ∙ append_assoc c.loop-n.line (spaced (get_or ns i 0)) (spaced_all (drop (i + 1) ns))
+          ∙ ap (λ (l : List ℕ). c.loop-n.line ++ l) (sym (numbers_on ns i (omega arith)))
+          ∙ c.loop-n.invariant.text;
+    }
 
-pub returns : goal.returns
+pub returns-clause-text : goal.returns-clause-text
 unfolding fields_of
-returns c =
+returns-clause-text g c =
     let ns = c.args.numbers.now in
-    let put = c.put-end.ensures in
-    let front = take c.args.at c.args.out.now in (
-      omega arith,
-      (
-        omega arith,
-        sym (append-nil (take c.loop-i.end c.loop-i.out))
-            ∙ ap (λ (l : List ℕ). take c.loop-i.end c.loop-i.out ++ l) (sym (numbers_end ns c.loop-i.i (omega arith)))
-            ∙ c.loop-i.invariant.3
-            ∙ ap (λ (l : List ℕ). l ++ spaced_all ns) put.1.1
-            ∙ append_assoc front c.args.word.now (spaced_all ns),
-      ),
-    )
+    sym (append-nil c.loop-n.line)
+    ∙ ap (λ (l : List ℕ). c.loop-n.line ++ l) (sym (numbers_end ns c.loop-n.n-index (omega arith)))
+    ∙ c.loop-n.invariant.text
+    ∙ ap (λ (l : List ℕ). l ++ spaced_all ns) c.put.ensures
+    ∙ append_assoc c.args.line.now c.args.word.now (spaced_all ns)

@@ -4,10 +4,10 @@ use borrow.Author.Rules.{rules}
 use Rattle.model.specs.Memory.{buffer_words}
 use Rattle.ring.proofs.encode.buffer_words.Goals as goal
 
-pub returns-in-Back : goal.returns-in-Back
+pub returns-in-Some : goal.returns-in-Some
 unfolding buffer_words
-returns-in-Back c = sym (ap buffer_words c.in-Back.is)
+returns-in-Some c = sym (ap buffer_words c.in-Some.is)
 
-pub returns-in-Lost : goal.returns-in-Lost
+pub returns-in-None : goal.returns-in-None
 unfolding buffer_words
-returns-in-Lost c = search rules
+returns-in-None c = search rules

@@ -2,6 +2,5 @@
 use mathlib.Core.Path.{refl}
 use Rattle.runner.proofs.turn.answer.Goals as goal
 
-pub returns : goal.returns
-returns c =
-    (refl, λ bytes k. record { text = _; line = c.line-a.ensures.by_index bytes k })
+pub returns-clause-answers : goal.returns-clause-answers
+returns-clause-answers c = (refl, λ bytes k. record { text = _; line = c.line-n.ensures.by_index bytes k })

@@ -1,8 +1,7 @@
 -- `turn::begun` meets its contract.
-use mathlib.Core.Path.{refl, ap}
+use mathlib.Core.Path.{refl}
 use lib.ListN.{replicate}
-use Rattle.model.specs.declared.Row.{Row}
 use Rattle.session.proofs.turn.begun.Goals as goal
 
 pub returns : goal.returns
-returns c = (refl, (ap (λ (row : Row). replicate 64 row) c.freed_row.ensures, (c.fresh.ensures, (refl, refl))))
+returns c = (refl, ((λ j. record { flushes = 0; counts = c.fresh.ensures j; rows = replicate 64 (c.freed_row.ensures j) }), refl))

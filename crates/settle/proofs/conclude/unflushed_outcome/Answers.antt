@@ -2,10 +2,10 @@
 use Rattle.step.specs.Rules.{unflushed}
 use Rattle.settle.proofs.conclude.unflushed_outcome.Goals as goal
 
-pub returns-in-Never : goal.returns-in-Never
+pub returns-in-None : goal.returns-in-None
 unfolding unflushed
-returns-in-Never c = rw (c.in-Never.is, c.receipt_for.ensures)
+returns-in-None c = rw (c.in-None.is, c.receipt_for.ensures)
 
-pub returns-in-First : goal.returns-in-First
+pub returns-in-Some : goal.returns-in-Some
 unfolding unflushed
-returns-in-First c = rw c.in-First.is
+returns-in-Some c = rw c.in-Some.is

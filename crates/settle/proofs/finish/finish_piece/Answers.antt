@@ -1,5 +1,5 @@
 -- `finish::finish_piece` meets its contract: each way out knows what was asked, and there the definition computes.
-use Rattle.std.proofs.Common.{◌≡◌, true, false, sym, ◌∙◌}
+use Rattle.std.proofs.Common.{◌≡◌, true, false, sym, refl, ◌∙◌}
 use Rattle.layout.specs.Pick.{pick}
 use Rattle.step.specs.Rules.{above_piece, first_refused, goes_on, split_after, piece_answered}
 use Rattle.settle.specs.Finished.{turned_by, fate_by}
@@ -29,7 +29,7 @@ returns-then-goes_on c =
     let within : above_piece a.piece a.answer ≡ false = sym c.above_piece.ensures ∙ c.if-above_piece.false in
     let begun : first_refused a.s a.answer ≡ false = sym c.first_refused.ensures ∙ c.if-first_refused.false in
     let whole : goes_on a.piece a.s a.answer a.back ≡ true = sym c.goes_on.ensures ∙ c.if-goes_on.true in
-    λ m short fits bytes. rw (within, begun, whole, no_wrap a.s.done a.piece _ c.wrapping_add_u64.ensures.value fits)
+    λ m short fits bytes. rw (within, begun, whole, no_wrap a.s.done a.piece _ refl fits)
 
 pub returns : goal.returns
 unfolding piece_answered pick

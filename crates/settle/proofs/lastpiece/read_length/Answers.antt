@@ -10,7 +10,7 @@ pub returns-in-Count : goal.returns-in-Count
 unfolding CountFits read_length
 returns-in-Count c =
     let a = c.args in
-    rw c.in-Count.is (λ fits. no_wrap a.s.done _ _ c.wrapping_add_u64.ensures.value fits)
+    rw c.in-Count.is (λ fits. no_wrap a.s.done _ _ refl fits)
 
 pub returns-in_default : goal.returns-in_default
 unfolding read_length

@@ -1,5 +1,5 @@
 -- `lastpiece::read_outcome` meets its contract: each arm knows which answer it is; a sum that fits does not wrap (Settling).
-use Rattle.std.proofs.Common.{ap}
+use Rattle.std.proofs.Common.{ap, refl}
 use Rattle.layout.specs.Pick.{pick}
 use Rattle.completion.specs.declared.Outcome.TheVariants.{Read}
 use Rattle.step.specs.Rules.{read_outcome}
@@ -11,7 +11,7 @@ pub returns-then-back : goal.returns-then-back
 unfolding CountFits read_outcome pick
 returns-then-back c =
     let a = c.args in
-    rw (c.in-Count.is, c.if-back.true) (λ fits. ap Read (no_wrap a.s.done _ _ c.wrapping_add_u64.ensures.value fits))
+    rw (c.in-Count.is, c.if-back.true) (λ fits. ap Read (no_wrap a.s.done _ _ refl fits))
 
 pub returns-else-back : goal.returns-else-back
 unfolding read_outcome pick

@@ -1,11 +1,17 @@
 -- `questions::read_answers` meets its contract: the groups, put together, are the list (Asking).
-use Rattle.step.specs.Questions.{buffer_in_pool}
+use Rattle.std.proofs.Common.{rules}
+use Rattle.step.specs.Questions.{buffer_in_pool, first_no}
 use Rattle.submission.proofs.Asking.{read_groups}
 use Rattle.submission.proofs.questions.read_answers.Goals as goal
 
+pub returns-in_err-names : goal.returns-in_err-names
+unfolding buffer_in_pool first_no
+returns-in_err-names c = let a = c.args in let g = read_groups a.o a.counts a.g a.held a.q in search (rules, g)
+
+pub returns-in_err-admit : goal.returns-in_err-admit
+unfolding buffer_in_pool first_no
+returns-in_err-admit c = let a = c.args in let g = read_groups a.o a.counts a.g a.held a.q in search (rules, g)
+
 pub returns : goal.returns
-unfolding buffer_in_pool
-returns c =
-    let a = c.args in
-    rw (c.both-2.ensures, c.both.ensures, c.check-checked.ensures, c.ctx_range-ranged.ensures, c.admit-admitted.ensures, c.in_pool-pooled.ensures, c.names-named.ensures, c.ctx-c.ensures)
-    (read_groups a.o a.counts a.g a.held a.q)
+unfolding buffer_in_pool first_no
+returns c = let a = c.args in let g = read_groups a.o a.counts a.g a.held a.q in search (rules, g)

@@ -1,14 +1,9 @@
--- `opening::kept::finish` meets its contract: each arm knows the line's front, by which the line is read (the reader's `Kept`).
+-- `preamble::kept::finish` meets its contract: each arm knows the line's front, by which the line is read (the reader's `Kept`).
 use mathlib.Core.Path.{sym, ◌∙◌}
-use native.Mathlib.Omega.{arith}
 use Rattle.fields.proofs.Kept.{read_by, fronted}
 use Rattle.parser.specs.declared.preamble.OpenLine.TheVariants.{Comment, Bad}
 use Rattle.parser.specs.Openings.{open_line_in, open_line_read}
 use Rattle.parser.proofs.preamble.kept.finish.Goals as goal
-
-pub front_line-requires : goal.front_line-requires
-front_line-requires c =
-    let within = c.front_of.ensures.0 _ c.in-Text.is in omega arith
 
 pub returns-in-Comment : goal.returns-in-Comment
 unfolding open_line_read read_by
@@ -21,5 +16,5 @@ returns-in-Bad c = λ bytes k. fronted k open_line_in Comment Bad (sym c.in-Bad.
 pub returns-in-Text : goal.returns-in-Text
 unfolding open_line_read read_by
 returns-in-Text c = λ bytes k.
-    c.front_line.ensures
+    c.open_line.ensures
     ∙ fronted k open_line_in Comment Bad (sym c.in-Text.is ∙ c.front_of.ensures.1 bytes k)

@@ -2,13 +2,14 @@
 use Rattle.session.proofs.PlannedLines.{start_planned, other_planned}
 use Rattle.session.proofs.preamble.planned.planned_line.Goals as goal
 
-pub returns-in-Start : goal.returns-in-Start
-returns-in-Start c =
+pub returns-in-Start-clause-by_index : goal.returns-in-Start-clause-by_index
+returns-in-Start-clause-by_index c =
     let a = c.args in
-    record { by_index = λ bytes k. start_planned a.o bytes a.number a.plan.now a.flushes a.counts _ _ c.in-Start.is (c.finish-line.ensures bytes k) _ _ c.start_line.ensures.tells; bounded = c.start_line.ensures.bounded }
+    let h = a.host.now in
+    λ bytes k. start_planned a.o bytes a.number a.plan.now h.flushes h.counts _ _ c.in-Start.is (c.finish-line.ensures bytes k) _ _ c.start_line.ensures.tells
 
-pub returns-in_default : goal.returns-in_default
-returns-in_default c =
+pub returns-in_default-clause-by_index : goal.returns-in_default-clause-by_index
+returns-in_default-clause-by_index c =
     let a = c.args in
-    let f = c.opening_line-f.ensures in
-    record { by_index = λ bytes k. let read = c.finish-line.ensures bytes k in other_planned a.o bytes a.number a.plan.now a.flushes a.counts _ _ read _ _ (f.1 bytes k read c.in_default.not-Start a.flushes a.counts _); bounded = f.0 }
+    let h = a.host.now in
+    λ bytes k. let read = c.finish-line.ensures bytes k in other_planned a.o bytes a.number a.plan.now h.flushes h.counts _ _ read _ _ (c.opening_line.ensures.1 bytes k read c.in_default.not-Start h.flushes h.counts _)

@@ -3,8 +3,9 @@ use mathlib.Core.Path.{refl}
 use Rattle.session.proofs.StartLines.{tells}
 use Rattle.session.proofs.preamble.start.start_line.Goals as goal
 
-pub returns : goal.returns
-returns c =
+pub returns-clause-tells : goal.returns-clause-tells
+returns-clause-tells c =
     let a = c.args in
-    let goes = c.started_line-f.ensures in
-    record { tells = tells a.o a.plan.now a.flushes a.counts a.rows a.store.now a.free.now a.ready.now a.owners.now a.pool.now _ _ _ _ _ _ c.start-s.ensures _ _ (goes.1 _ refl) _ (c.counts_after-counted.ensures a.o _ refl); bounded = goes.0 }
+    let h = a.host.now in
+    let w = a.words.now in
+    tells a.o a.plan.now h.flushes h.counts h.rows w.store.now w.free.now w.ready.now w.owners.now a.pool.now _ _ _ _ _ _ c.start-started.ensures.starts _ _ (c.started_line.ensures.1 _ refl) _ (c.counts_after-host.ensures a.o _ refl)

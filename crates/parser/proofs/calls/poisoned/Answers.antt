@@ -1,7 +1,0 @@
--- `calls::poisoned` meets its contract: the row of its word is the one that fits, and its parts are the row's.
-use Rattle.parser.proofs.Table.{poison_line}
-use Rattle.parser.proofs.calls.poisoned.Goals as goal
-
-pub returns : goal.returns
-returns c =
-    cc (poison_line c.args.text.now c.requires.0 c.requires.1)

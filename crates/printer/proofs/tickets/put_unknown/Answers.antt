@@ -1,9 +1,0 @@
--- `tickets::put_unknown` meets its contract: the second part stands behind the first.
-use mathlib.Core.Path.{◌∙◌}
-use mathlib.Core.List.{append_assoc}
-use native.Mathlib.Omega.{arith}
-use Rattle.printer.proofs.tickets.put_unknown.Goals as goal
-
-pub returns : goal.returns
-returns c =
-    (omega arith, (omega arith, c.put_cause.ensures.1.1 ∙ rw (c.put_place-placed.ensures.1.1, append_assoc)))

@@ -1,2 +1,0 @@
--- How the first no of a list of questions is found.
-pub mod Groups
