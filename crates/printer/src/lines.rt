@@ -10,7 +10,8 @@ use completion::Refusal;
 #[tactic(auto, unfolding(crate::specs::Texts::piece_word, crate::specs::Texts::piece_text))]
 pub fn piece_text<const N: usize>(line: &mut Line<N>, qtag: u64, offset: u64, count: u64)
     requires { length line.old + 128 ≤ N }
-    ensures { line.new ≡ line.old ++ piece_text qtag offset count }
+    ensures text { line.new ≡ line.old ++ piece_text qtag offset count }
+    ensures room { length line.new ≤ length line.old + 128 }
 {
     line.put(b"piece");
     line.put_spaced(qtag);
@@ -23,7 +24,8 @@ pub fn piece_text<const N: usize>(line: &mut Line<N>, qtag: u64, offset: u64, co
 #[tactic(auto, unfolding(crate::specs::Texts::numbered))]
 pub fn numbered_text<const N: usize>(line: &mut Line<N>, word: &[u8], n: u64)
     requires { (length word.now ≤ 6) × (length line.old + 128 ≤ N) }
-    ensures { line.new ≡ line.old ++ numbered word.now n }
+    ensures text { line.new ≡ line.old ++ numbered word.now n }
+    ensures room { length line.new ≤ length line.old + 128 }
 {
     line.put(word);
     line.put_spaced(n);
@@ -44,7 +46,8 @@ pub fn bad_text(n: u64, out: &mut [u8; 128]) -> usize
 #[tactic(auto, unfolding(crate::specs::Texts::no_word))]
 pub fn no_text<const N: usize>(line: &mut Line<N>, refusal: Refusal)
     requires { length line.old + 128 ≤ N }
-    ensures { line.new ≡ line.old ++ numbered no_word (number refusal) }
+    ensures text { line.new ≡ line.old ++ numbered no_word (number refusal) }
+    ensures room { length line.new ≤ length line.old + 128 }
 {
     numbered_text(line, b"no", completion::refusals::number_of(refusal))
 }

@@ -73,7 +73,8 @@ pub fn put_read<const N: usize>(line: &mut Line<N>, len: u64)
 #[tactic(auto, unfolding(crate::specs::Parts::flush_text))]
 pub fn flush_text<const N: usize>(line: &mut Line<N>, qtag: u64, need: u64)
     requires { length line.old + 128 ≤ N }
-    ensures { line.new ≡ line.old ++ flush_text qtag need }
+    ensures text { line.new ≡ line.old ++ flush_text qtag need }
+    ensures room { length line.new ≤ length line.old + 128 }
 {
     line.put(b"flush");
     line.put_spaced(qtag);
@@ -84,7 +85,8 @@ pub fn flush_text<const N: usize>(line: &mut Line<N>, qtag: u64, need: u64)
 // A word alone, with its line's end.
 pub fn word_text<const N: usize>(line: &mut Line<N>, word: &[u8])
     requires { (length word.now ≤ 8) × (length line.old + 128 ≤ N) }
-    ensures { line.new ≡ line.old ++ word.now }
+    ensures text { line.new ≡ line.old ++ word.now }
+    ensures room { length line.new ≤ length line.old + 128 }
 {
     line.put(word)
 }

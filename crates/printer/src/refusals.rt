@@ -62,7 +62,8 @@ pub fn put_told<const N: usize>(line: &mut Line<N>, told: Told)
 #[tactic(auto, unfolding(crate::specs::Texts::no_word, crate::specs::No::no_text))]
 pub fn no_text<const N: usize>(line: &mut Line<N>, refusal: Refusal)
     requires { length line.old + 1024 ≤ N }
-    ensures { line.new ≡ line.old ++ no_text refusal }
+    ensures text { line.new ≡ line.old ++ no_text refusal }
+    ensures room { length line.new ≤ length line.old + 1024 }
 {
     let number = completion::refusals::number_of(refusal);
     let told = completion::refusals::told_of(refusal);

@@ -21,7 +21,8 @@ pub fn piece_text<const N: usize>(
     buffer: u64,
 )
     requires { length line.old + 1024 ≤ N }
-    ensures { line.new ≡ line.old ++ (fields_of piece_word (qtag ∷ offset ∷ count ∷ buffer ∷ []) ++ (10 ∷ [])) }
+    ensures text { line.new ≡ line.old ++ (fields_of piece_word (qtag ∷ offset ∷ count ∷ buffer ∷ []) ++ (10 ∷ [])) }
+    ensures room { length line.new ≤ length line.old + 1024 }
 {
     let numbers = [qtag, offset, count, buffer];
     crate::parts::put_fields(line, b"piece", &numbers);
@@ -36,7 +37,8 @@ pub fn refused_text<const N: usize>(
     buf: Option<Held>,
 )
     requires { length line.old + 1024 ≤ N }
-    ensures { line.new ≡ line.old ++ (refused_text range raw ++ buffer_text buf ++ (10 ∷ [])) }
+    ensures text { line.new ≡ line.old ++ (refused_text range raw ++ buffer_text buf ++ (10 ∷ [])) }
+    ensures room { length line.new ≤ length line.old + 1024 }
 {
     crate::causes::put_refused(line, range, raw);
     crate::tickets::put_buffer(line, buf);
@@ -47,7 +49,8 @@ pub fn refused_text<const N: usize>(
 #[tactic(auto, unfolding(crate::specs::Parts::bit, layout::specs::Pick::pick, crate::specs::Lines::took_text))]
 pub fn took_text<const N: usize>(line: &mut Line<N>, c: Completion)
     requires { length line.old + 1024 ≤ N }
-    ensures { line.new ≡ line.old ++ took_text c }
+    ensures text { line.new ≡ line.old ++ took_text c }
+    ensures room { length line.new ≤ length line.old + 1024 }
 {
     line.put(b"took");
     line.put_spaced(c.tag);
@@ -60,7 +63,8 @@ pub fn took_text<const N: usize>(line: &mut Line<N>, c: Completion)
 #[tactic(auto, unfolding(crate::specs::Replay::replay_text))]
 fn put_reply<const N: usize>(line: &mut Line<N>, reply: Reply)
     requires { length line.old + 1024 ≤ N }
-    ensures { line.new ≡ line.old ++ replay_text reply }
+    ensures text { line.new ≡ line.old ++ replay_text reply }
+    ensures room { length line.new ≤ length line.old + 1024 }
 {
     match reply {
         Reply::Piece {

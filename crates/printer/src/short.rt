@@ -12,7 +12,8 @@ use domain::OsError;
 #[tactic(auto, unfolding(crate::specs::Parts::bit, layout::specs::Pick::pick, crate::specs::ShortTook::short_took))]
 pub fn took_text<const N: usize>(line: &mut Line<N>, c: Completion)
     requires { length line.old + 128 ≤ N }
-    ensures { line.new ≡ line.old ++ short_took c }
+    ensures text { line.new ≡ line.old ++ short_took c }
+    ensures room { length line.new ≤ length line.old + 128 }
 {
     line.put(b"took");
     line.put_spaced(c.tag);
@@ -23,7 +24,8 @@ pub fn took_text<const N: usize>(line: &mut Line<N>, c: Completion)
 // A first piece refused.
 pub fn refused_text<const N: usize>(line: &mut Line<N>, range: Range, raw: Option<OsError>)
     requires { length line.old + 128 ≤ N }
-    ensures { line.new ≡ line.old ++ (refused_text range raw ++ (10 ∷ [])) }
+    ensures text { line.new ≡ line.old ++ (refused_text range raw ++ (10 ∷ [])) }
+    ensures room { length line.new ≤ length line.old + 128 }
 {
     crate::causes::put_refused(line, range, raw);
     line.put(b"\n")
