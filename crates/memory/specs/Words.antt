@@ -1,15 +1,16 @@
 -- What a host lends of row memory besides the rows, in the structs in which it is lent on.
-use Rattle.std.specs.Prelude.{◌≡◌, List, ℕ}
+use Rattle.std.specs.Prelude.{◌≡◌, List, ℕ, length}
 use Rattle.model.specs.declared.{Row.Row, Lengths.Lengths}
 use Rattle.model.specs.Memory.{Lent}
 use Rattle.memory.specs.Lengths.{lengths_with}
 use Rattle.memory.specs.declared.words.{Words.Words, View.View}
 
--- each part is the one that was lent
+-- each part is the one that was lent, and as long
 abbrev pub SameWords : Words → Words → Type 0
 SameWords p p' =
     (p'.store.ghost_name ≡ p.store.ghost_name) × (p'.free.ghost_name ≡ p.free.ghost_name) × (p'.ready.ghost_name ≡ p.ready.ghost_name) ×
-    (p'.owners.ghost_name ≡ p.owners.ghost_name)
+    (p'.owners.ghost_name ≡ p.owners.ghost_name) × (length p'.store.now ≡ length p.store.now) × (length p'.free.now ≡ length p.free.now) ×
+    (length p'.ready.now ≡ length p.ready.now) × (length p'.owners.now ≡ length p.owners.now)
 
 -- what is read in it is what stands in the parts
 abbrev pub Sees : Words → View → Type 0

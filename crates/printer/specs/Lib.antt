@@ -1,3 +1,4 @@
+pub mod Line
 pub mod Spaced
 pub mod Texts
 pub mod Parts

@@ -1,60 +1,32 @@
-// A line as it is written: bytes and numbers put behind one another. A clause sees its text, a list of at most N bytes.
-ghost use Rattle.std.specs.Prelude.{◌≡◌, ◌++◌, ◌+◌, ◌≤◌, List, ℕ, [], length, take};
+// A line as it is written: bytes and numbers put behind one another, into a buffer that is lent.
+ghost use Rattle.std.specs.Prelude.{◌≡◌, ◌++◌, ◌+◌, ◌≤◌, length, take};
+ghost use Rattle.printer.specs.Spaced.{spaced};
+ghost use Rattle.printer.specs.Line.{said, SameLine};
 
-use std::marker::Model;
-
-// A buffer, and how many of its bytes are written.
+// A buffer that is lent, and how many of its bytes are written.
 #[derive(Drop)]
-pub struct Line<const N: usize> {
-    bytes: [u8; N],
-    len: usize,
+pub struct Line<'a> {
+    pub out: &'a mut [u8],
+    pub len: usize,
 }
 
-impl<const N: usize> Model for Line<N> {
-    ghost Value = { List ℕ };
-
-    ghost view = { λ l. take l.len l.bytes };
-
-    ghost invariant = { λ l. l.len ≤ N };
-}
-
-impl<const N: usize> Line<N> {
-    ghost use Rattle.printer.specs.Spaced.{spaced};
-
-    // Before the first byte.
-    pub fn new() -> Self
-        ensures { result ≡ [] }
-    {
-        Line {
-            bytes: [0; N],
-            len: 0,
-        }
-    }
-
-    // What is written.
-    pub fn text(&self) -> &[u8]
-        ensures text { result.now ≡ self.now }
-        ensures within { length result.now ≤ N }
-    {
-        &self.bytes[..self.len]
-    }
-
+impl Line<'_> {
     // Puts bytes.
     pub fn put(&mut self, text: &[u8])
-        requires { length self.old + length text.now ≤ N }
-        ensures { self.new ≡ self.old ++ text.now }
+        requires { self.old.len + length text.now ≤ length self.old.out.now }
+        ensures same { SameLine self.old self.new }
+        ensures text { said self.new ≡ said self.old ++ text.now }
+        ensures len { self.new.len ≡ self.old.len + length text.now }
     {
-        let end = self.len + text.len();
-        let all = &mut self.bytes[..];
-        all[self.len..end].copy_from_slice(text);
-        self.len = end;
+        self.len = put(text, self.out, self.len);
     }
 
     // Puts a space and a number's digits, of which there are at most 20.
     pub fn put_spaced(&mut self, n: u64)
-        requires { length self.old + 21 ≤ N }
-        ensures text { self.new ≡ self.old ++ spaced n }
-        ensures room { length self.new ≤ length self.old + 21 }
+        requires { self.old.len + 21 ≤ length self.old.out.now }
+        ensures same { SameLine self.old self.new }
+        ensures text { said self.new ≡ said self.old ++ spaced n }
+        ensures room { self.new.len ≤ self.old.len + 21 }
     {
         let mut digits = [0u8; 20];
         let k = io::decimal(n, &mut digits);

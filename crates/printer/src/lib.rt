@@ -1,5 +1,5 @@
 // The lines that a trace's programs print (TRACE.md, "Replies").
-// bytes: a line as it is written, and bytes put into a buffer.
+// bytes: a line as it is written into a buffer that is lent, and bytes put into a buffer.
 // parts: a word and numbers behind it, ranges, needs, and the lines of a word alone.
 // causes: operations, OS errors, causes, and a refused first piece.
 // tickets: tickets, receipts and buffers.

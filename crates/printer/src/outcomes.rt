@@ -2,16 +2,18 @@
 ghost use Rattle.std.specs.Prelude.{◌≡◌, ◌++◌, ◌+◌, ◌*◌, ◌≤◌, length};
 ghost use Rattle.printer.specs.Parts.{bit};
 ghost use Rattle.printer.specs.Outcomes.{outcome_text};
+ghost use Rattle.printer.specs.Line.{said, SameLine};
 
 use crate::bytes::Line;
 use completion::Outcome;
 
 // Puts what an operation came to: at most 87 bytes, or 485 for the whole of it.
 #[tactic(auto, unfolding(crate::specs::Outcomes::outcome_text))]
-pub fn put_outcome<const N: usize>(line: &mut Line<N>, whole: bool, outcome: Outcome)
-    requires { length line.old + 87 + 398 * bit whole ≤ N }
-    ensures text { line.new ≡ line.old ++ outcome_text whole outcome }
-    ensures room { length line.new ≤ length line.old + 87 + 398 * bit whole }
+pub fn put_outcome(line: &mut Line, whole: bool, outcome: Outcome)
+    requires { line.old.len + 87 + 398 * bit whole ≤ length line.old.out.now }
+    ensures same { SameLine line.old line.new }
+    ensures text { said line.new ≡ said line.old ++ outcome_text whole outcome }
+    ensures room { line.new.len ≤ line.old.len + 87 + 398 * bit whole }
 {
     match outcome {
         Outcome::Written(t) => crate::tickets::put_ticketed(line, whole, b" written", t, t.need),

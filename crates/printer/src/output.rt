@@ -13,8 +13,9 @@ use model::Row;
 pub fn say_reply(reply: Reply, out: &mut [u8; 4096]) -> usize
     ensures { (result ≤ 4096) × (take result out.new ≡ replay_text reply) }
 {
-    let line = crate::replies::reply_text(reply);
-    crate::bytes::put(line.text(), out, 0)
+    let mut line = Line { out, len: 0 };
+    crate::replies::put_reply(&mut line, reply);
+    line.len
 }
 
 // `bad` and the line's number.
@@ -22,9 +23,9 @@ pub fn say_reply(reply: Reply, out: &mut [u8; 4096]) -> usize
 pub fn say_bad(number: u64, out: &mut [u8; 4096]) -> usize
     ensures { (result ≤ 4096) × (take result out.new ≡ bad_text number) }
 {
-    let mut line = Line::<128>::new();
+    let mut line = Line { out, len: 0 };
     crate::lines::numbered_text(&mut line, b"bad", number);
-    crate::bytes::put(line.text(), out, 0)
+    line.len
 }
 
 // `sum S`
@@ -32,9 +33,9 @@ pub fn say_bad(number: u64, out: &mut [u8; 4096]) -> usize
 pub fn say_sum(sum: u64, out: &mut [u8; 4096]) -> usize
     ensures { (result ≤ 4096) × (take result out.new ≡ sum_text sum) }
 {
-    let mut line = Line::<128>::new();
+    let mut line = Line { out, len: 0 };
     crate::lines::numbered_text(&mut line, b"sum", sum);
-    crate::bytes::put(line.text(), out, 0)
+    line.len
 }
 
 // The generations of the rows.
@@ -58,7 +59,7 @@ pub fn say_rows(
     let most = depth.min(64);
     let end = most.min(free.len());
     let top = live.min(end);
-    let mut line = Line::<4096>::new();
+    let mut line = Line { out, len: 0 };
     crate::rows::rows_text(&mut line, &all[..most], &free[top..end]);
-    crate::bytes::put(line.text(), out, 0)
+    line.len
 }

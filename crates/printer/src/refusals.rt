@@ -5,6 +5,7 @@ ghost use Rattle.printer.specs.Parts.{fields_of, cause_text};
 ghost use Rattle.completion.specs.Told.{told_values};
 ghost use Rattle.printer.specs.Contexts.{region_word, cause_word, context_text};
 ghost use Rattle.printer.specs.No.{no_text};
+ghost use Rattle.printer.specs.Line.{said, SameLine};
 
 use crate::bytes::Line;
 use completion::refusals::Told;
@@ -12,10 +13,11 @@ use completion::{Context, Refusal};
 use domain::FirstCause;
 
 // Puts ` region ID`.
-fn put_region<const N: usize>(line: &mut Line<N>, id: u64)
-    requires { length line.old + 70 ≤ N }
-    ensures text { line.new ≡ line.old ++ fields_of region_word (id ∷ []) }
-    ensures room { length line.new ≤ length line.old + 70 }
+fn put_region(line: &mut Line, id: u64)
+    requires { line.old.len + 70 ≤ length line.old.out.now }
+    ensures same { SameLine line.old line.new }
+    ensures text { said line.new ≡ said line.old ++ fields_of region_word (id ∷ []) }
+    ensures room { line.new.len ≤ line.old.len + 70 }
 {
     let numbers = [id];
     crate::parts::put_fields(line, b" region", &numbers)
@@ -23,10 +25,11 @@ fn put_region<const N: usize>(line: &mut Line<N>, id: u64)
 
 // Puts a context, where there is one.
 #[tactic(auto, unfolding(crate::specs::Contexts::context_text, completion::specs::Numbers::context_values, crate::specs::Parts::range_text))]
-fn put_context<const N: usize>(line: &mut Line<N>, context: Context)
-    requires { length line.old + 70 ≤ N }
-    ensures text { line.new ≡ line.old ++ context_text (context_values context) }
-    ensures room { length line.new ≤ length line.old + 70 }
+fn put_context(line: &mut Line, context: Context)
+    requires { line.old.len + 70 ≤ length line.old.out.now }
+    ensures same { SameLine line.old line.new }
+    ensures text { said line.new ≡ said line.old ++ context_text (context_values context) }
+    ensures room { line.new.len ≤ line.old.len + 70 }
 {
     match context {
         Context::None => (),
@@ -36,10 +39,11 @@ fn put_context<const N: usize>(line: &mut Line<N>, context: Context)
 }
 
 // Puts ` cause OP ERR`.
-fn put_caused<const N: usize>(line: &mut Line<N>, cause: FirstCause)
-    requires { length line.old + 70 ≤ N }
-    ensures text { line.new ≡ line.old ++ (cause_word ++ cause_text cause) }
-    ensures room { length line.new ≤ length line.old + 70 }
+fn put_caused(line: &mut Line, cause: FirstCause)
+    requires { line.old.len + 70 ≤ length line.old.out.now }
+    ensures same { SameLine line.old line.new }
+    ensures text { said line.new ≡ said line.old ++ (cause_word ++ cause_text cause) }
+    ensures room { line.new.len ≤ line.old.len + 70 }
 {
     line.put(b" cause");
     crate::causes::put_cause(line, cause)
@@ -47,10 +51,11 @@ fn put_caused<const N: usize>(line: &mut Line<N>, cause: FirstCause)
 
 // Puts what a refusal tells besides its number.
 #[tactic(auto, unfolding(completion::specs::Told::told_values, crate::specs::Contexts::context_text))]
-pub fn put_told<const N: usize>(line: &mut Line<N>, told: Told)
-    requires { length line.old + 70 ≤ N }
-    ensures text { line.new ≡ line.old ++ context_text (told_values told) }
-    ensures room { length line.new ≤ length line.old + 70 }
+pub fn put_told(line: &mut Line, told: Told)
+    requires { line.old.len + 70 ≤ length line.old.out.now }
+    ensures same { SameLine line.old line.new }
+    ensures text { said line.new ≡ said line.old ++ context_text (told_values told) }
+    ensures room { line.new.len ≤ line.old.len + 70 }
 {
     match told {
         Told::Context(context) => put_context(line, context),
@@ -60,10 +65,11 @@ pub fn put_told<const N: usize>(line: &mut Line<N>, told: Told)
 
 // `no N` and the context
 #[tactic(auto, unfolding(crate::specs::Texts::no_word, crate::specs::No::no_text))]
-pub fn no_text<const N: usize>(line: &mut Line<N>, refusal: Refusal)
-    requires { length line.old + 1024 ≤ N }
-    ensures text { line.new ≡ line.old ++ no_text refusal }
-    ensures room { length line.new ≤ length line.old + 1024 }
+pub fn no_text(line: &mut Line, refusal: Refusal)
+    requires { line.old.len + 1024 ≤ length line.old.out.now }
+    ensures same { SameLine line.old line.new }
+    ensures text { said line.new ≡ said line.old ++ no_text refusal }
+    ensures room { line.new.len ≤ line.old.len + 1024 }
 {
     let number = completion::refusals::number_of(refusal);
     let told = completion::refusals::told_of(refusal);

@@ -3,6 +3,7 @@ ghost use Rattle.std.specs.Prelude.{◌≡◌, [], ◌∷◌, ◌++◌, ◌+◌,
 ghost use Rattle.printer.specs.Parts.{refused_text};
 ghost use Rattle.printer.specs.ShortTook.{short_took};
 ghost use Rattle.printer.specs.Short.{short_text};
+ghost use Rattle.printer.specs.Line.{said, SameLine};
 
 use crate::bytes::Line;
 use completion::{Completion, Range, Reply};
@@ -10,10 +11,11 @@ use domain::OsError;
 
 // `took TAG` and what the operation came to
 #[tactic(auto, unfolding(crate::specs::Parts::bit, layout::specs::Pick::pick, crate::specs::ShortTook::short_took))]
-pub fn took_text<const N: usize>(line: &mut Line<N>, c: Completion)
-    requires { length line.old + 128 ≤ N }
-    ensures text { line.new ≡ line.old ++ short_took c }
-    ensures room { length line.new ≤ length line.old + 128 }
+pub fn took_text(line: &mut Line, c: Completion)
+    requires { line.old.len + 128 ≤ length line.old.out.now }
+    ensures same { SameLine line.old line.new }
+    ensures text { said line.new ≡ said line.old ++ short_took c }
+    ensures room { line.new.len ≤ line.old.len + 128 }
 {
     line.put(b"took");
     line.put_spaced(c.tag);
@@ -22,10 +24,11 @@ pub fn took_text<const N: usize>(line: &mut Line<N>, c: Completion)
 }
 
 // A first piece refused.
-pub fn refused_text<const N: usize>(line: &mut Line<N>, range: Range, raw: Option<OsError>)
-    requires { length line.old + 128 ≤ N }
-    ensures text { line.new ≡ line.old ++ (refused_text range raw ++ (10 ∷ [])) }
-    ensures room { length line.new ≤ length line.old + 128 }
+pub fn refused_text(line: &mut Line, range: Range, raw: Option<OsError>)
+    requires { line.old.len + 128 ≤ length line.old.out.now }
+    ensures same { SameLine line.old line.new }
+    ensures text { said line.new ≡ said line.old ++ (refused_text range raw ++ (10 ∷ [])) }
+    ensures room { line.new.len ≤ line.old.len + 128 }
 {
     crate::causes::put_refused(line, range, raw);
     line.put(b"\n")
@@ -37,7 +40,7 @@ pub fn refused_text<const N: usize>(line: &mut Line<N>, range: Range, raw: Optio
 pub fn short_text(reply: Reply, out: &mut [u8; 128]) -> usize
     ensures { (result ≤ 128) × (take result out.new ≡ short_text reply) }
 {
-    let mut line = Line::<128>::new();
+    let mut line = Line { out, len: 0 };
     match reply {
         Reply::Piece {
             qtag,
@@ -59,5 +62,5 @@ pub fn short_text(reply: Reply, out: &mut [u8; 128]) -> usize
         ),
         Reply::Mark(m) => crate::lines::numbered_text(&mut line, b"mark", m),
     }
-    crate::bytes::put(line.text(), out, 0)
+    line.len
 }

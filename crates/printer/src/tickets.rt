@@ -4,16 +4,18 @@ ghost use Rattle.layout.specs.Pick.{pick};
 ghost use Rattle.printer.specs.Parts.{fields_of, bit, cause_text, need_text, receipt_word};
 ghost use Rattle.printer.specs.Tickets.{buffer_word, buffer_text, ticket_text, receipt_text};
 ghost use Rattle.printer.specs.Outcomes.{place_text};
+ghost use Rattle.printer.specs.Line.{said, SameLine};
 
 use crate::bytes::Line;
 use completion::{DurableReceipt, Held, Range, WriteTicket};
 use domain::FirstCause;
 
 // Puts a buffer that came back, with its length.
-fn put_back<const N: usize>(line: &mut Line<N>, buffer: u64, len: u64)
-    requires { length line.old + 49 ≤ N }
-    ensures text { line.new ≡ line.old ++ fields_of buffer_word (buffer ∷ len ∷ []) }
-    ensures room { length line.new ≤ length line.old + 49 }
+fn put_back(line: &mut Line, buffer: u64, len: u64)
+    requires { line.old.len + 49 ≤ length line.old.out.now }
+    ensures same { SameLine line.old line.new }
+    ensures text { said line.new ≡ said line.old ++ fields_of buffer_word (buffer ∷ len ∷ []) }
+    ensures room { line.new.len ≤ line.old.len + 49 }
 {
     let numbers = [buffer, len];
     crate::parts::put_fields(line, b" buffer", &numbers)
@@ -21,10 +23,11 @@ fn put_back<const N: usize>(line: &mut Line<N>, buffer: u64, len: u64)
 
 // Puts an operation's buffer, or that it did not come back.
 #[tactic(auto, unfolding(crate::specs::Tickets::buffer_text))]
-pub fn put_buffer<const N: usize>(line: &mut Line<N>, buf: Option<Held>)
-    requires { length line.old + 49 ≤ N }
-    ensures text { line.new ≡ line.old ++ buffer_text buf }
-    ensures room { length line.new ≤ length line.old + 49 }
+pub fn put_buffer(line: &mut Line, buf: Option<Held>)
+    requires { line.old.len + 49 ≤ length line.old.out.now }
+    ensures same { SameLine line.old line.new }
+    ensures text { said line.new ≡ said line.old ++ buffer_text buf }
+    ensures room { line.new.len ≤ line.old.len + 49 }
 {
     match buf {
         Some(Held { buffer, len }) => put_back(line, buffer, len),
@@ -34,10 +37,11 @@ pub fn put_buffer<const N: usize>(line: &mut Line<N>, buf: Option<Held>)
 
 // Puts a ticket.
 #[tactic(auto, unfolding(crate::specs::Tickets::ticket_text))]
-fn put_ticket<const N: usize>(line: &mut Line<N>, t: WriteTicket)
-    requires { length line.old + 154 ≤ N }
-    ensures text { line.new ≡ line.old ++ ticket_text t }
-    ensures room { length line.new ≤ length line.old + 154 }
+fn put_ticket(line: &mut Line, t: WriteTicket)
+    requires { line.old.len + 154 ≤ length line.old.out.now }
+    ensures same { SameLine line.old line.new }
+    ensures text { said line.new ≡ said line.old ++ ticket_text t }
+    ensures room { line.new.len ≤ line.old.len + 154 }
 {
     let generation = t.generation as u64;
     let numbers = [
@@ -48,10 +52,11 @@ fn put_ticket<const N: usize>(line: &mut Line<N>, t: WriteTicket)
 
 // Puts a receipt.
 #[tactic(auto, unfolding(crate::specs::Tickets::receipt_text))]
-fn put_receipt<const N: usize>(line: &mut Line<N>, d: DurableReceipt)
-    requires { length line.old + 260 ≤ N }
-    ensures text { line.new ≡ line.old ++ receipt_text d }
-    ensures room { length line.new ≤ length line.old + 260 }
+fn put_receipt(line: &mut Line, d: DurableReceipt)
+    requires { line.old.len + 260 ≤ length line.old.out.now }
+    ensures same { SameLine line.old line.new }
+    ensures text { said line.new ≡ said line.old ++ receipt_text d }
+    ensures room { line.new.len ≤ line.old.len + 260 }
 {
     let generation = d.generation as u64;
     let untorn = crate::parts::bit_of(d.untorn);
@@ -76,16 +81,11 @@ fn put_receipt<const N: usize>(line: &mut Line<N>, d: DurableReceipt)
 
 // Puts a word, a ticket's range and a need, and of the whole the ticket.
 #[tactic(auto, unfolding(layout::specs::Pick::pick), using(crate::proofs::Bits::bit_set))]
-pub fn put_ticketed<const N: usize>(
-    line: &mut Line<N>,
-    whole: bool,
-    word: &[u8],
-    t: WriteTicket,
-    need: u64,
-)
-    requires { (length word.now ≤ 8) × (length line.old + 71 + 154 * bit whole ≤ N) }
-    ensures text { line.new ≡ line.old ++ (need_text word.now t need ++ pick whole (ticket_text t) []) }
-    ensures room { length line.new ≤ length line.old + 71 + 154 * bit whole }
+pub fn put_ticketed(line: &mut Line, whole: bool, word: &[u8], t: WriteTicket, need: u64)
+    requires { (length word.now ≤ 8) × (line.old.len + 71 + 154 * bit whole ≤ length line.old.out.now) }
+    ensures same { SameLine line.old line.new }
+    ensures text { said line.new ≡ said line.old ++ (need_text word.now t need ++ pick whole (ticket_text t) []) }
+    ensures room { line.new.len ≤ line.old.len + 71 + 154 * bit whole }
 {
     crate::parts::put_need(line, word, t, need);
     if whole {
@@ -95,15 +95,12 @@ pub fn put_ticketed<const N: usize>(
 
 // Puts ` receipt START END NEED`, and of the whole `TICKET RECEIPT`.
 #[tactic(auto, unfolding(layout::specs::Pick::pick), using(crate::proofs::Bits::bit_set))]
-pub fn put_durable<const N: usize>(
-    line: &mut Line<N>,
-    whole: bool,
-    t: WriteTicket,
-    d: DurableReceipt,
-)
-    requires { length line.old + 87 + 398 * bit whole ≤ N }
-    ensures text { line.new ≡ line.old ++ (need_text receipt_word t d.need ++ pick whole (ticket_text t) [] ++ pick whole (receipt_text d) []) }
-    ensures room { length line.new ≤ length line.old + 87 + 398 * bit whole }
+pub fn put_durable(line: &mut Line, whole: bool, t: WriteTicket, d: DurableReceipt)
+    requires { line.old.len + 87 + 398 * bit whole ≤ length line.old.out.now }
+    ensures same { SameLine line.old line.new }
+    ensures text { said line.new ≡ said line.old
+        ++ (need_text receipt_word t d.need ++ pick whole (ticket_text t) [] ++ pick whole (receipt_text d) []) }
+    ensures room { line.new.len ≤ line.old.len + 87 + 398 * bit whole }
 {
     put_ticketed(line, whole, b" receipt", t, d.need);
     if whole {
@@ -113,10 +110,11 @@ pub fn put_durable<const N: usize>(
 
 // Puts ` unknown START END`, and of the whole its region before them.
 #[tactic(auto, unfolding(crate::specs::Outcomes::place_text, layout::specs::Pick::pick), using(crate::proofs::Bits::bit_set))]
-fn put_place<const N: usize>(line: &mut Line<N>, whole: bool, range: Range)
-    requires { length line.old + 50 + 21 * bit whole ≤ N }
-    ensures text { line.new ≡ line.old ++ place_text whole range }
-    ensures room { length line.new ≤ length line.old + 50 + 21 * bit whole }
+fn put_place(line: &mut Line, whole: bool, range: Range)
+    requires { line.old.len + 50 + 21 * bit whole ≤ length line.old.out.now }
+    ensures same { SameLine line.old line.new }
+    ensures text { said line.new ≡ said line.old ++ place_text whole range }
+    ensures room { line.new.len ≤ line.old.len + 50 + 21 * bit whole }
 {
     if whole {
         return crate::parts::put_range(line, b" unknown", range);
@@ -126,10 +124,11 @@ fn put_place<const N: usize>(line: &mut Line<N>, whole: bool, range: Range)
 }
 
 // Puts ` unknown START END OP ERR`, of the whole ` unknown REGION START END OP ERR`.
-pub fn put_unknown<const N: usize>(line: &mut Line<N>, whole: bool, range: Range, cause: FirstCause)
-    requires { length line.old + 77 + 21 * bit whole ≤ N }
-    ensures text { line.new ≡ line.old ++ (place_text whole range ++ cause_text cause) }
-    ensures room { length line.new ≤ length line.old + 77 + 21 * bit whole }
+pub fn put_unknown(line: &mut Line, whole: bool, range: Range, cause: FirstCause)
+    requires { line.old.len + 77 + 21 * bit whole ≤ length line.old.out.now }
+    ensures same { SameLine line.old line.new }
+    ensures text { said line.new ≡ said line.old ++ (place_text whole range ++ cause_text cause) }
+    ensures room { line.new.len ≤ line.old.len + 77 + 21 * bit whole }
 {
     put_place(line, whole, range);
     crate::causes::put_cause(line, cause)
