@@ -46,3 +46,40 @@ fn main(rt: HostRuntime) {
     };
     run(rt.stdin(), rt.stdout(), r, &mut words, &mut pool);
 }
+
+#[cfg(test)]
+mod tests {
+    use super::*;
+
+    // A host that lends its words on knows that each part is as long after a call as before: it looks at the last word of each.
+    #[test]
+    fn parts_keep_their_lengths(rt: HostRuntime) {
+        let mut rows = [optable::freed_row(0); 2];
+        let mut counts = opening::fresh();
+        let mut store = [0u64; 118];
+        let mut free = [0u64; 2];
+        let mut ready = [0u64; 33];
+        let mut owners = [0u64; 3];
+        let mut pool = [0u8; 6144];
+        let mut words = Words {
+            store: &mut store,
+            free: &mut free,
+            ready: &mut ready,
+            owners: &mut owners,
+        };
+        let _ = submitter::call(
+            model::Call::Take,
+            &mut counts,
+            &mut rows,
+            &mut words,
+            &mut pool,
+        );
+        let last = [
+            words.store[117],
+            words.free[1],
+            words.ready[32],
+            words.owners[2],
+        ];
+        assert_eq!(rt; last, [0, 0, 0, 0]);
+    }
+}

@@ -1,8 +1,8 @@
 -- The Rust's data as values: what store-io's optable.rs, completion.rs and submitter/mod.rs hold (commit a84d392376), field by field and under its
 -- names. A reference to a region (`Arc<LiveRegion>`, and the `OwnedPass` that a row keeps) is the region's handle. A position or an offset is the
--- number that the Rust has, in this repository's types. `Option<OsError>` is std's Option of the crate domain's OsError, a number, `Option<Op>` domain's Op. Left out: `order`,
--- `mark`, `asks`, `flushing`, `asked`, wakers, counters; appends (`Kind::Append`, `prefix`) and barriers (`Kind::Sync`, `Kind::All`, `Done::Synced`),
--- `Kind::Raw`.
+-- number that the Rust has, in this repository's types. `Option<OsError>` is std's Option of a number (the crate domain's OsError), `Option<Op>` is
+-- domain's Op. Left out: `order`, `mark`, `asks`, `flushing`, `asked`, wakers, counters; appends (`Kind::Append`, `prefix`) and barriers
+-- (`Kind::Sync`, `Kind::All`, `Done::Synced`), `Kind::Raw`.
 use Rattle.std.specs.Prelude.{Bool, List, ℕ}
 use Rattle.std.proofs.Math.Option.{Option}
 use Rattle.regionmap.specs.declared.Position.{Position}
