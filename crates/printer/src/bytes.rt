@@ -11,6 +11,15 @@ pub struct Line<'a> {
 }
 
 impl Line<'_> {
+    // What is written.
+    pub fn text(&self) -> &[u8]
+        ensures text { result.now ≡ said self.now }
+        ensures within { length result.now ≤ length self.now.out.now }
+    {
+        let end = self.len.min(self.out.len());
+        &self.out[..end]
+    }
+
     // Puts bytes.
     pub fn put(&mut self, text: &[u8])
         requires { self.old.len + length text.now ≤ length self.old.out.now }
@@ -44,4 +53,25 @@ pub fn put(text: &[u8], out: &mut [u8], at: usize) -> usize
     let end = at + text.len();
     out[at..end].copy_from_slice(text);
     end
+}
+
+#[cfg(test)]
+mod tests {
+    use super::*;
+
+    // A line is read as far as it is written, and a length that is more than the buffer's reads the buffer.
+    #[test]
+    fn text_is_what_is_written(rt: HostRuntime) {
+        let mut bytes = [0u8; 26];
+        let mut line = Line {
+            out: &mut bytes,
+            len: 0,
+        };
+        assert_eq!(rt; line.text().len(), 0);
+        line.put(b"bad");
+        line.put_spaced(7);
+        assert_eq!(rt; line.text(), b"bad 7".as_slice());
+        line.len = 27;
+        assert_eq!(rt; line.text().len(), 26);
+    }
 }
